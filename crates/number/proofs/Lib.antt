@@ -1,0 +1,10 @@
+-- Proofs that belong to no one function: laws of the definitions, which other crates cite, and the root's theorem (`Correct`).
+pub mod Values
+pub mod Specials
+pub mod Differences
+pub mod Picks
+pub mod Order
+pub mod Whole
+pub mod Patterns
+pub mod Rounded
+pub mod Correct

@@ -1,0 +1,24 @@
+-- `number::max` meets its contract, case by case. Assumes nothing.
+use mathlib.Core.Path.{_∙_}
+use mathlib.Core.Logic.{⊎-elim, inl, inr}
+use lib.Ieee.{binary64}
+use Rattle.number.specs.Extrema.{max}
+use Rattle.number.proofs.Picks.{pick-ahead, pick-number, pick-tie, pick-other, eq-number, clear-test}
+use Rattle.number.proofs.extrema.max.Statement.{statement}
+use Rattle.number.proofs.extrema.max.Tie as tie
+
+pub max-spec : {M : Type 1} → statement M
+unfolding max
+max-spec =
+    tie.close
+    (tie.spec
+    (λ c. pick-ahead _ _ _ _ (c .if1 .taken))
+    (λ c. pick-number _ _ _ _ (c .if2 .taken))
+    (λ c. eq-number _ _ (c .if3 .taken))
+    (λ c.
+    let same = c .before .if3 .taken in
+    pick-tie _ _ _ _ same (clear-test binary64 _ _ (c .before .before .before .before .good .0 .1) same ∙ c .if4 .taken))
+    (λ c.
+    let fits = c .before .before .before .good .0 .1 in
+    pick-other _ _ _ _ (c .before .before .if1 .left) (c .before .if2 .left)
+    (⊎-elim (λ t. inl (t .0 .taken, clear-test binary64 _ _ fits (t .0 .taken) ∙ t .1 .left)) (λ t. inr (t .left)) (c .if3 .came))))

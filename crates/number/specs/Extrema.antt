@@ -1,0 +1,12 @@
+-- `f64::max` and `f64::min` as document 01 has them: a NaN is passed over when the other is a number. Of unlike zeros `max` gives +0 and `min` gives −0.
+use mathlib.Core.Bool.{not, _&&_, _||_, cond}
+use lib.Ieee.{Float, isNan, lt, eq}
+use Rattle.number.specs.Parts.{negative}
+
+-- x where y is no number, where x is above y, and where the two are equal and x has no sign
+unfoldable pub max : Float → Float → Float
+max x y = cond (isNan y || lt y x || (eq x y && not (negative x))) x y
+
+-- x where y is no number, where x is below y, and where the two are equal and x has the sign
+unfoldable pub min : Float → Float → Float
+min x y = cond (isNan y || lt x y || (eq x y && negative x)) x y

@@ -1,0 +1,38 @@
+// `f64::max` and `f64::min`, with document 01's rule for unlike zeros.
+ghost use mathlib.Core.Path.{_≡_};
+ghost use Rattle.number.specs.Extrema as Extrema;
+
+// The sign's bit of x
+const SIGN: u64 = 0x8000_0000_0000_0000;
+
+// The larger of the two. A NaN is passed over; of unlike zeros it is +0.
+pub fn max(x: f64, y: f64) -> f64
+    ensures { λ r. ⌜ r ≡ Extrema.max x y ⌝ }
+{
+    if y < x {
+        return x;
+    }
+    if y != y {
+        return x;
+    }
+    if x == y && f64::to_bits(x) < SIGN {
+        return x;
+    }
+    y
+}
+
+// The smaller of the two. A NaN is passed over; of unlike zeros it is −0.
+pub fn min(x: f64, y: f64) -> f64
+    ensures { λ r. ⌜ r ≡ Extrema.min x y ⌝ }
+{
+    if x < y {
+        return x;
+    }
+    if y != y {
+        return x;
+    }
+    if x == y && SIGN <= f64::to_bits(x) {
+        return x;
+    }
+    y
+}
