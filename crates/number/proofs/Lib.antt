@@ -4,6 +4,7 @@ pub mod Specials
 pub mod Differences
 pub mod Picks
 pub mod Order
+pub mod Finite
 pub mod Whole
 pub mod Patterns
 pub mod Rounded

@@ -2,18 +2,23 @@
 -- Assumes nothing.
 use mathlib.Core.Path.{_≡_, refl, sym, ap, _∙_, subst}
 use mathlib.Core.Bool.{Bool, true, false, not, _&&_, _||_, Bool·beq, cond, true≢false, false≢true, and-true, and-false, or-true, or-false}
+use mathlib.Core.List.{List, [], _∷_}
 use mathlib.Core.Logic.{_⊎_, inl, inr, ⊎-elim}
 use Prim.Native.Nat.{ℕ, zero, suc, _+_, _*_, _^_, _<_}
 use native.Mathlib.Nat.{eq-zero-or-pos}
 use native.Mathlib.Omega.{arith}
 use borrow.Author.Tests.{ltb-true, ltb-false, eqb-true, eqb-false, lt-ltb, le-ltb, eq-eqb, ne-eqb}
-use lib.Dec.{T, ltb, eqb}
-use lib.Ieee.{Float, nan, inf, fin, Format, binary64, prec, emax, low, unlike, up, down, below, level, odd, units, round, add, mul, lt, eq, le, isNan}
+use lib.IntN.{ℤ, negsuc}
+use lib.Dec.{T, ltb, eqb, eqb→eq, eqb·suc-zero}
+use lib.Ieee.{Float, nan, inf, fin, Format, binary64, prec, emax, low, unlike, up, down, below, level, odd, units, round, add, mul, div, ofBits, lt, eq, le, fits, isNan}
 use lib.Ieee.Bits.{is-true, is-false}
-use lib.Ieee.Fits.{round-is}
-use Rattle.number.specs.Parts.{negative, nonneg, abs}
-use Rattle.number.specs.Extrema.{max, min}
+use lib.Ieee.Fits.{round-is, and-l, down-pos}
+use Rattle.number.specs.Binary64.{_⊗_, zero as zero·, epsilon64, recip}
+use Rattle.number.specs.Parts.{isFinite, negative, nonneg, abs}
+use Rattle.number.specs.Extrema.{max, min, larger, Larger}
+use Rattle.number.specs.Vectors.{maxFrom, largest, largerFrom}
 use Rattle.number.specs.Root.{nearestRoot, sqrt}
+use Rattle.number.proofs.Values.{same-value}
 use Rattle.number.proofs.Picks.{pick-is, pick-has, pick-left, eq-number, lt-numbers}
 
 -- ---- finite values, by sign and size
@@ -315,3 +320,105 @@ unfolding mul nonneg isNan
 nonneg-square f nan p = absurd p
 nonneg-square f (inf s) p = rw (alike s s refl) tt
 nonneg-square f (fin s m e) p = rw (alike s s refl) (nonneg-round f _ _)
+
+-- a factor that is finite and above zero never makes a NaN
+pub nonneg-mul-positive : (f : Format) (m : ℕ) (e : ℤ) (y : Float) → T (nonneg y) → T (nonneg (mul f (fin false (suc m) e) y))
+unfolding mul nonneg
+nonneg-mul-positive f m e nan h = h
+nonneg-mul-positive f m e (inf true) h = absurd h
+nonneg-mul-positive f m e (inf false) h = rw (eqb·suc-zero m) tt
+nonneg-mul-positive f m e (fin true n d) h = absurd h
+nonneg-mul-positive f m e (fin false n d) h = nonneg-round f _ _
+
+-- 64ε times a largest entry
+pub nonneg-floor : (y : Float) → T (nonneg y) → T (nonneg (epsilon64 ⊗ y))
+unfolding ofBits
+nonneg-floor y h = nonneg-mul-positive binary64 0 (negsuc 45) y h
+
+-- a quotient of like signs is clear of it, unless it is 0 ÷ 0 or ∞ ÷ ∞
+pub nonneg-div : (f : Format) (x y : Float) → T (nonneg x) → T (nonneg y) → T (not (isNan (div f x y))) → T (nonneg (div f x y))
+unfolding div nonneg isNan
+nonneg-div f nan y h k l = l
+nonneg-div f (inf true) y h k l = absurd h
+nonneg-div f (inf false) nan h k l = l
+nonneg-div f (inf false) (inf t) h k l = l
+nonneg-div f (inf false) (fin true n d) h k l = absurd k
+nonneg-div f (inf false) (fin false n d) h k l = tt
+nonneg-div f (fin true m e) y h k l = absurd h
+nonneg-div f (fin false m e) nan h k l = l
+nonneg-div f (fin false m e) (inf true) h k l = absurd k
+nonneg-div f (fin false m e) (inf false) h k l = tt
+nonneg-div f (fin false m e) (fin true n d) h k l = absurd k
+nonneg-div f (fin false m e) (fin false n d) h k l = by (eqb n 0) (eqb m 0) l
+  where
+    by : (a b : Bool) → T (not (isNan (cond a (cond b nan (inf false)) (round f false (m * up e * down d) (n * up d * down e)))))
+        → T (nonneg (cond a (cond b nan (inf false)) (round f false (m * up e * down d) (n * up d * down e))))
+    by true true l = l
+    by true false l = tt
+    by false b l = nonneg-round f _ _
+
+pub nonneg-recip : (x : Float) → T (isFinite x) → T (nonneg x) → T (nonneg (recip x))
+unfolding isFinite nonneg div ofBits
+nonneg-recip nan f h = absurd h
+nonneg-recip (inf s) f h = absurd f
+nonneg-recip (fin true m e) f h = absurd h
+nonneg-recip (fin false m e) f h = by (eqb m 0)
+  where
+    by : (b : Bool) → T (nonneg (cond b (inf false) (round binary64 false (1 * down e) (m * up e * 1))))
+    by true = tt
+    by false = nonneg-round binary64 (1 * down e) (m * up e * 1)
+
+-- ---- `larger` in the place of `max`
+
+-- equal values that the format holds, with the sign clear, are one value
+pub eq-same : (f : Format) (x y : Float) → T (fits f x) → T (fits f y) → T (nonneg x) → T (nonneg y) → T (eq x y) → x ≡ y
+unfolding eq nonneg
+eq-same f nan y p q a b h = absurd h
+eq-same f (inf s) nan p q a b h = absurd h
+eq-same f (inf true) (inf t) p q a b h = absurd a
+eq-same f (inf false) (inf true) p q a b h = absurd b
+eq-same f (inf false) (inf false) p q a b h = refl
+eq-same f (inf s) (fin t n d) p q a b h = absurd h
+eq-same f (fin s m e) nan p q a b h = absurd h
+eq-same f (fin s m e) (inf t) p q a b h = absurd h
+eq-same f (fin true m e) (fin t n d) p q a b h = absurd a
+eq-same f (fin false m e) (fin true n d) p q a b h = absurd b
+eq-same f (fin false m e) (fin false n d) p q a b h =
+    same-value f (fin false m e) (fin false n d) false (m * up e) (down e) (down-pos e) p q (refl, refl)
+    (refl, sym (eqb→eq (m * up e * down d) (n * up d * down e) (and-l (eqb (m * up e * down d) (n * up d * down e)) true h)))
+
+pub larger-is : (f : Format) (low x : Float) → T (fits f low) → T (fits f x) → Larger low x (larger low x)
+unfolding max
+larger-is f low x p q = record {
+  is = refl;
+  first = λ n. sym (max-select low x n);
+  second = λ n. pick-has _ _ x low (λ z. larger low x ≡ z) (nonneg-not-nan low n) (λ h. chosen (is-true (lt low x) h)) (tied n) (λ h. other (is-false (lt low x) h));
+}
+  where
+    chosen : lt low x ≡ true → larger low x ≡ x
+    chosen h = rw h
+
+    other : lt low x ≡ false → larger low x ≡ low
+    other h = rw h
+
+    tied : T (nonneg low) → T (eq x low) → T (not (negative x)) → larger low x ≡ x
+    tied n h s =
+        let e = eq-same f x low q p (subst T (sym (nonneg-is x (eq-number x low (is-true (eq x low) h)))) s) n h in
+        by (lt low x) e
+      where
+        by : (b : Bool) → x ≡ low → cond b x low ≡ x
+        by true e = refl
+        by false e = sym e
+
+-- the largest of a list, one comparison each
+pub largest-select : (low : Float) (xs : List Float) → T (nonneg low) → maxFrom low xs ≡ largerFrom low xs
+largest-select low [] n = refl
+largest-select low (x ∷ xs) n = largest-select (max low x) xs (nonneg-max low x n) ∙ ap (λ (y : Float). largerFrom y xs) (max-select low x n)
+
+pub nonneg-largest : (low : Float) (xs : List Float) → T (nonneg low) → T (nonneg (maxFrom low xs))
+nonneg-largest low [] n = n
+nonneg-largest low (x ∷ xs) n = nonneg-largest (max low x) xs (nonneg-max low x n)
+
+-- the largest of three, found by one comparison each
+pub largest-three : (x y z a b c : Float) → a ≡ larger zero· x → b ≡ larger a y → c ≡ larger b z → c ≡ largest (x ∷ y ∷ z ∷ [])
+largest-three x y z a b c e f g = rw (largest-select zero· (x ∷ y ∷ z ∷ []) (unfold nonneg ofBits in tt)) (cc)

@@ -1,8 +1,8 @@
 -- Binary64 of IEEE 754: short names for its operations, each of which rounds once, to nearest, ties to even, and the constants of the Rust.
-use lib.Ieee.{Float, binary64, add, sub, mul, div, ofBits}
+use lib.Ieee.{Float, binary64, add, sub, mul, div, neg, ofBits}
 
-infixl 65 _⊕_ _⊖_
-infixl 70 _⊗_ _⊘_
+infixl 75 _⊕_ _⊖_
+infixl 80 _⊗_ _⊘_
 abbrev pub _⊕_ : Float → Float → Float
 x ⊕ y = add binary64 x y
 
@@ -15,9 +15,15 @@ x ⊗ y = mul binary64 x y
 abbrev pub _⊘_ : Float → Float → Float
 x ⊘ y = div binary64 x y
 
--- +0 and 1
+-- +0, −0, a half and 1
 abbrev pub zero : Float
 zero = ofBits binary64 0
+
+abbrev pub negZero : Float
+negZero = neg zero
+
+abbrev pub half : Float
+half = ofBits binary64 0x3fe0_0000_0000_0000
 
 abbrev pub one : Float
 one = ofBits binary64 0x3ff0_0000_0000_0000

@@ -36,3 +36,11 @@ pub fn min(x: f64, y: f64) -> f64
     }
     y
 }
+
+// `max` by one comparison, for a `low` that is a number with the sign clear: a NaN in x is passed
+// over, and of unlike zeros it is +0.
+pub fn larger(low: f64, x: f64) -> f64
+    ensures { λ r. ⌜ Extrema.Larger low x r ⌝ }
+{
+    if low < x { x } else { low }
+}

@@ -8,9 +8,11 @@ mod root;
 
 pub use bits::from_bits;
 pub use bits::to_bits;
+pub use extrema::larger;
 pub use extrema::max;
 pub use extrema::min;
 pub use parts::abs;
+pub use parts::all_finite;
 pub use parts::is_finite;
 pub use parts::recip;
 pub use root::sqrt;

@@ -2,6 +2,7 @@
 ghost use mathlib.Core.Path.{_≡_};
 ghost use Rattle.number.specs.Binary64 as Binary64;
 ghost use Rattle.number.specs.Parts as Parts;
+ghost use Rattle.number.specs.Vectors as Vectors;
 
 // `f64::abs`. The difference from 0 turns −0 into +0, where a change of sign would keep the NaN alone.
 pub fn abs(x: f64) -> f64
@@ -15,6 +16,18 @@ pub fn is_finite(x: f64) -> bool
     ensures { λ r. ⌜ r ≡ Parts.isFinite x ⌝ }
 {
     x - x == 0.0
+}
+
+// Whether every entry is finite
+pub fn all_finite(values: &[f64]) -> bool
+    ensures { λ r. ⌜ r ≡ Vectors.allFinite (now (values .entry)) ⌝ }
+{
+    for i in 0..values.len() {
+        if !is_finite(values[i]) {
+            return false;
+        }
+    }
+    true
 }
 
 // `f64::recip`
