@@ -1,0 +1,3 @@
+-- Laws of the projection, which other crates cite.
+pub mod Laws
+pub mod Pose

@@ -1,0 +1,16 @@
+-- `projection::not_projectable` meets its contract. Assumes nothing.
+use Rattle.projection.specs.Projection.{notProjectable}
+use borrow.Author.Needs.{needs}
+use Rattle.projection.proofs.not_projectable.Statement.{statement}
+use Rattle.projection.proofs.not_projectable.Tie as tie
+
+returns : tie.Need-returns
+unfolding notProjectable
+returns c = cc
+
+pub not-projectable-spec : {M : Type 1} → statement M
+not-projectable-spec =
+    tie.close
+    (tie.spec
+    (λ c κs. search needs)
+    returns)
