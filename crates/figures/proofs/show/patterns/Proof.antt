@@ -1,30 +1,29 @@
--- `figures::roots` is safe and ends. Assumes nothing.
+-- `figures::show::patterns` is safe and ends. Assumes nothing.
+use mathlib.Core.Path.{_≡_}
 use Prim.Native.Nat.{_-_, _≤_}
 use native.Mathlib.Omega.{arith}
 use borrow.Author.Needs.{needs}
 use lib.ListN.{length}
-use mathlib.Core.Path.{_≡_}
-use Rattle.figures.proofs.roots.Statement.{statement}
-use Rattle.figures.proofs.roots.Tie as tie
+use Rattle.figures.proofs.show.patterns.Statement.{statement}
+use Rattle.figures.proofs.show.patterns.Tie as tie
 
 abbrev Inv-loop : tie.InvT-loop
-Inv-loop text b₀ i₀ i-end b i = (i ≤ i-end) × (i-end ≡ length text)
+Inv-loop values i₀ i-end i = (i ≤ i-end) × (i-end ≡ length values)
 
 abbrev μ-loop : tie.MeasureT-loop
-μ-loop text b₀ i₀ i-end b i = i-end - i
+μ-loop values i₀ i-end i = i-end - i
 
-pub roots-spec : {M : Type 1} → statement M
-roots-spec =
+pub patterns-spec : {M : Type 1} → statement M
+patterns-spec =
     tie.close
     (tie.spec
     Inv-loop
     μ-loop
     (λ c. omega arith)
+    (λ c. search needs)
     (λ c. omega arith)
     (λ c κs. search needs)
-    (λ c. omega arith)
     (λ c κs. search needs)
-    (λ c. omega arith)
     (λ c. omega arith)
     (λ c. omega arith)
     (λ c. omega arith)

@@ -1,0 +1,141 @@
+-- The steps of the factor over plain values, and what holds of every factor. Assumes nothing.
+use mathlib.Core.Path.{_≡_, refl}
+use mathlib.Core.Bool.{Bool, true, false, not, cond}
+use borrow.Author.Tests.{not-true, not-false}
+use mathlib.Core.List.{List, [], _∷_}
+use lib.Dec.{T}
+use lib.Ieee.{Float, lt, ofBits}
+use lib.Ieee.Bits.{is-true}
+use lib.Ieee.Fits.{and-l, and-r}
+use Rattle.number.specs.Binary64.{_⊗_, zero, epsilon64, recip}
+use Rattle.number.specs.Extrema.{larger, Larger}
+use Rattle.number.specs.Parts.{isFinite, nonneg}
+use Rattle.number.specs.Vectors.{_!_}
+use Rattle.number.proofs.Order.{largest-three, nonneg-largest, nonneg-floor, nonneg-above, nonneg-recip}
+use Rattle.refusal.specs.Rows as Rows
+use Rattle.refusal.specs.Refused.{of, none, isRowNone, isNone}
+use Rattle.refusal.specs.declared.Refusal.{Refusal}
+use Rattle.point_block.specs.declared.DampingDiagonal.{DampingDiagonal}
+use Rattle.point_block.specs.declared.DampedMatrix.{DampedMatrix}
+use Rattle.point_block.specs.declared.Cholesky.{Cholesky}
+use Rattle.point_block.specs.declared.PointBlockFactor.{PointBlockFactor}
+use Rattle.point_block.specs.declared.LoneFactor.{LoneFactor}
+use Rattle.point_block.specs.Damping.{largestDiagonal, floored, positiveFinite, dampingDiagonal, addedDiagonal, dampedMatrix}
+use Rattle.point_block.specs.Factor.{scaleOf, scaledOf, choleskyOf, goodPivots, inverseOf, notFactored, factorDamped}
+use Rattle.point_block.specs.Condition.{rowNorm, infinityNorm, inverseMatrix, reciprocalConditionNumber}
+use Rattle.point_block.specs.Lone.{factor, goodDamping, refused, loneFactor}
+
+-- ---- the steps
+
+pub largest-diagonal : (m : List Float) (a b c : Float) → a ≡ larger zero (m ! 0) → b ≡ larger a (m ! 4) → c ≡ larger b (m ! 8) → c ≡ largestDiagonal m
+unfolding largestDiagonal
+largest-diagonal m a b c e f g = largest-three (m ! 0) (m ! 4) (m ! 8) a b c e f g
+
+nonneg-scale : (m : List Float) → T (nonneg (largestDiagonal m))
+unfolding largestDiagonal
+nonneg-scale m = nonneg-largest zero (m ! 0 ∷ m ! 4 ∷ m ! 8 ∷ []) (unfold nonneg ofBits in tt)
+
+pub floored-is : (m : List Float) (scale a b c : Float) → scale ≡ largestDiagonal m → Larger (epsilon64 ⊗ scale) (m ! 0) a → Larger (epsilon64 ⊗ scale) (m ! 4) b
+    → Larger (epsilon64 ⊗ scale) (m ! 8) c → (a ∷ b ∷ c ∷ []) ≡ floored m
+unfolding floored
+floored-is m scale a b c e p q r =
+    let n = rw (← e) at (nonneg-floor (largestDiagonal m) (nonneg-scale m)) in
+    let x = p .second n in
+    let y = q .second n in
+    let z = r .second n in
+    cc
+
+pub norm-is : (m : List Float) (x y z a b c : Float) → x ≡ rowNorm (m ! 0) (m ! 1) (m ! 2) → y ≡ rowNorm (m ! 3) (m ! 4) (m ! 5) → z ≡ rowNorm (m ! 6) (m ! 7) (m ! 8)
+    → a ≡ larger zero x → b ≡ larger a y → c ≡ larger b z → c ≡ infinityNorm m
+unfolding infinityNorm
+norm-is m x y z a b c ex ey ez ea eb ec = let l = largest-three x y z a b c ea eb ec in cc
+
+-- ---- the answers, by the tests that lead to each
+
+module _ (i m inverse : List Float) (n k : Float) (b : Bool) (f : n ≡ infinityNorm m) (g : inverse ≡ inverseMatrix i) (h : k ≡ infinityNorm inverse) (t : b ≡ positiveFinite (n ⊗ k)) where
+  pub rcond-some : (r : Float) → b ≡ true → r ≡ recip (n ⊗ k) → r ≡ reciprocalConditionNumber i m
+  unfolding reciprocalConditionNumber
+  rcond-some r p q = rw (← g, ← h, ← f, ← t, p) q
+
+  pub rcond-none : b ≡ false → zero ≡ reciprocalConditionNumber i m
+  unfolding reciprocalConditionNumber
+  rcond-none p = rw (← g, ← h, ← f, ← t, p) refl
+
+module _ (m : List Float) (s : Float) (b : Bool) (r : Refusal) (e : s ≡ largestDiagonal m) (t : b ≡ positiveFinite s) where
+  pub diagonal-none : not b ≡ true → r ≡ of Rows.notFactored → record { values = zero ∷ zero ∷ zero ∷ []; refusal = r } ≡ dampingDiagonal m
+  unfolding dampingDiagonal
+  diagonal-none p q = rw (← e, ← t, not-true b p, q) refl
+
+  pub diagonal-some : (v : List Float) → not b ≡ false → v ≡ floored m → r ≡ none → record { values = v; refusal = r } ≡ dampingDiagonal m
+  unfolding dampingDiagonal
+  diagonal-some v p f q = rw (← e, ← t, not-false b p, f, q) refl
+
+module _ (m : List Float) (damping : Float) (d : DampingDiagonal) (b : Bool) (e : d ≡ dampingDiagonal m) (t : b ≡ isNone (d .refusal)) where
+  pub damped-none : not b ≡ true
+      → record { matrix = zero ∷ zero ∷ zero ∷ zero ∷ zero ∷ zero ∷ zero ∷ zero ∷ zero ∷ []; refusal = d .refusal } ≡ dampedMatrix m damping
+  unfolding dampedMatrix
+  damped-none p = rw (← e, ← t, not-true b p) refl
+
+  pub damped-some : (x : List Float) → not b ≡ false → x ≡ addedDiagonal m damping (d .values) → record { matrix = x; refusal = d .refusal } ≡ dampedMatrix m damping
+  unfolding dampedMatrix
+  damped-some x p q = rw (← e, ← t, not-false b p, q) refl
+
+module _ (m scale : List Float) (c : Cholesky) (b : Bool) (e : scale ≡ scaleOf m) (f : c ≡ choleskyOf (scaledOf m scale)) (t : b ≡ goodPivots (c .pivots)) where
+  pub factored-none : (r : PointBlockFactor) → not b ≡ true → r ≡ notFactored → r ≡ factorDamped m
+  unfolding factorDamped
+  factored-none r p q = rw (← e, ← f, ← t, not-true b p) q
+
+  pub factored-some : (i : List Float) (r : Refusal) → not b ≡ false → i ≡ inverseOf (c .lower) scale → r ≡ none → record { inverse = i; refusal = r } ≡ factorDamped m
+  unfolding factorDamped
+  factored-some i r p q s = rw (← e, ← f, ← t, not-false b p, q, s) refl
+
+module _ (m : List Float) (damping : Float) (d : DampedMatrix) (b : Bool) (r : PointBlockFactor) (e : d ≡ dampedMatrix m damping) (t : b ≡ isNone (d .refusal)) where
+  pub factor-none : not b ≡ true → r ≡ notFactored → r ≡ factor m damping
+  unfolding factor
+  factor-none p q = rw (← e, ← t, not-true b p) q
+
+  pub factor-some : not b ≡ false → r ≡ factorDamped (d .matrix) → r ≡ factor m damping
+  unfolding factor
+  factor-some p q = rw (← e, ← t, not-false b p) q
+
+module _ (m : List Float) (damping : Float) (g : Bool) (t : g ≡ goodDamping damping) where
+  pub lone-damping : (r : LoneFactor) → not g ≡ true → r ≡ refused Rows.damping → r ≡ loneFactor m damping
+  unfolding loneFactor
+  lone-damping r p q = rw (← t, not-true g p) q
+
+  module _ (p : not g ≡ false) (f : PointBlockFactor) (b : Bool) (e : f ≡ factor m damping) (u : b ≡ isNone (f .refusal)) where
+    pub lone-none : (r : LoneFactor) → not b ≡ true → r ≡ refused Rows.notFactored → r ≡ loneFactor m damping
+    unfolding loneFactor
+    lone-none r q h = rw (← t, not-false g p, ← e, ← u, not-true b q) h
+
+    pub lone-some : (x : Float) (r : Refusal) → not b ≡ false → x ≡ reciprocalConditionNumber (f .inverse) m → r ≡ none
+        → record { inverse = f .inverse; rcond = x; refusal = r } ≡ loneFactor m damping
+    unfolding loneFactor
+    lone-some x r q h k = rw (← t, not-false g p, ← e, ← u, not-false b q, h, k) refl
+
+-- ---- what holds of every factor
+
+-- the lone factor gives the factor wherever there is one: nothing but the matrix and the damping decides whether there is
+pub lone-factors : (m : List Float) (damping : Float) → T (goodDamping damping) → isNone (loneFactor m damping .refusal) ≡ isNone (factor m damping .refusal)
+unfolding loneFactor refused isNone
+lone-factors m damping g = rw (is-true (goodDamping damping) g) (by (isRowNone (factor m damping .refusal .number)) refl)
+  where
+    by : (b : Bool) → isRowNone (factor m damping .refusal .number) ≡ b
+        → isRowNone (cond b (record { inverse = factor m damping .inverse; rcond = reciprocalConditionNumber (factor m damping .inverse) m; refusal = none }) (refused Rows.notFactored) .refusal .number) ≡ b
+    by true e = refl
+    by false e = refl
+
+-- rcond is a number and never below zero
+pub rcond-nonneg : (i m : List Float) → T (nonneg (reciprocalConditionNumber i m))
+unfolding reciprocalConditionNumber
+rcond-nonneg i m = by (infinityNorm m ⊗ infinityNorm (inverseMatrix i))
+  where
+    by : (d : Float) → T (nonneg (cond (positiveFinite d) (recip d) zero))
+    by d = go (positiveFinite d) (λ h. h)
+      where
+        go : (b : Bool) → (T b → T (positiveFinite d)) → T (nonneg (cond b (recip d) zero))
+        go true k =
+            let A = isFinite d in
+            let B = lt zero d in
+            nonneg-recip d (and-l A B (k tt)) (nonneg-above zero d (unfold nonneg ofBits in tt) (and-r A B (k tt)))
+        go false k = unfold nonneg ofBits in tt

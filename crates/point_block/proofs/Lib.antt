@@ -1,0 +1,2 @@
+-- Laws of the point block's factor, which other crates cite.
+pub mod Laws

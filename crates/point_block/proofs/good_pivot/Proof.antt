@@ -1,0 +1,14 @@
+-- `point_block::good_pivot` meets its contract. Assumes nothing.
+use borrow.Author.Needs.{needs}
+use Rattle.point_block.proofs.good_pivot.Statement.{statement}
+use Rattle.point_block.proofs.good_pivot.Tie as tie
+
+returns : tie.Need-returns
+returns c = cc
+
+pub good-pivot-spec : {M : Type 1} → statement M
+good-pivot-spec =
+    tie.close
+    (tie.spec
+    (λ c κs. search needs)
+    returns)

@@ -1,0 +1,33 @@
+-- `point_block::infinity_norm` meets its contract. Assumes nothing.
+use Rattle.point_block.proofs.Laws.{norm-is}
+use native.Mathlib.Omega.{arith}
+use borrow.Author.Needs.{needs}
+use Rattle.point_block.proofs.infinity_norm.Statement.{statement}
+use Rattle.point_block.proofs.infinity_norm.Tie as tie
+
+returns : tie.Need-returns
+returns c =
+    let n = c .before .before .before in
+    norm-is _ _ _ _ _ _ _ (n .before .before .row-norm .ensures) (n .before .row-norm2 .ensures) (n .row-norm3 .ensures) (c .before .before .larger .ensures .is) (c .before .larger2 .ensures .is)
+    (c .larger3 .ensures .is)
+
+pub infinity-norm-spec : {M : Type 1} → statement M
+infinity-norm-spec =
+    tie.close
+    (tie.spec
+    (λ c. omega arith)
+    (λ c. omega arith)
+    (λ c. omega arith)
+    (λ c κs. search needs)
+    (λ c. omega arith)
+    (λ c. omega arith)
+    (λ c. omega arith)
+    (λ c κs. search needs)
+    (λ c. omega arith)
+    (λ c. omega arith)
+    (λ c. omega arith)
+    (λ c κs. search needs)
+    (λ c κs. search needs)
+    (λ c κs. search needs)
+    (λ c κs. search needs)
+    returns)

@@ -1,0 +1,16 @@
+-- `point_block::not_factored` meets its contract. Assumes nothing.
+use Rattle.point_block.specs.Factor.{notFactored}
+use borrow.Author.Needs.{needs}
+use Rattle.point_block.proofs.not_factored.Statement.{statement}
+use Rattle.point_block.proofs.not_factored.Tie as tie
+
+returns : tie.Need-returns
+unfolding notFactored
+returns c = cc
+
+pub not-factored-spec : {M : Type 1} → statement M
+not-factored-spec =
+    tie.close
+    (tie.spec
+    (λ c κs. search needs)
+    returns)

@@ -1,0 +1,29 @@
+-- `reciprocal_condition_number` of point_block.rs: 1 ÷ (infinity norm of the matrix × that of the inverse), or 0 if that product is not positive and finite.
+use mathlib.Core.Bool.{cond}
+use mathlib.Core.List.{List, [], _∷_}
+use lib.Ieee.{Float}
+use Rattle.number.specs.Binary64.{_⊗_, zero, one, recip}
+use Rattle.number.specs.Parts.{abs}
+use Rattle.number.specs.Vectors.{_!_, sum, largest}
+use Rattle.point_block.specs.Damping.{positiveFinite}
+use Rattle.point_block.specs.Factor.{solve}
+
+-- the sum of a row's absolute values
+abbrev pub rowNorm : Float → Float → Float → Float
+rowNorm x y z = sum (abs x ∷ abs y ∷ abs z ∷ [])
+
+unfoldable pub infinityNorm : List Float → Float
+infinityNorm m = largest (rowNorm (m ! 0) (m ! 1) (m ! 2) ∷ rowNorm (m ! 3) (m ! 4) (m ! 5) ∷ rowNorm (m ! 6) (m ! 7) (m ! 8) ∷ [])
+
+-- The inverse by three solves with unit vectors, each a column: not the six stored numbers, since ∞ × 0 has to show.
+unfoldable pub inverseMatrix : List Float → List Float
+inverseMatrix i =
+    let x = solve i (one ∷ zero ∷ zero ∷ []) in
+    let y = solve i (zero ∷ one ∷ zero ∷ []) in
+    let z = solve i (zero ∷ zero ∷ one ∷ []) in
+    x ! 0 ∷ y ! 0 ∷ z ! 0 ∷ x ! 1 ∷ y ! 1 ∷ z ! 1 ∷ x ! 2 ∷ y ! 2 ∷ z ! 2 ∷ []
+
+unfoldable pub reciprocalConditionNumber : List Float → List Float → Float
+reciprocalConditionNumber i m =
+    let denominator = infinityNorm m ⊗ infinityNorm (inverseMatrix i) in
+    cond (positiveFinite denominator) (recip denominator) zero

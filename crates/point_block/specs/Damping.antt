@@ -1,0 +1,52 @@
+-- The damping of a 3 by 3 point block, `damping_diagonal` and `damped_matrix` of point_block.rs. A matrix is nine numbers, row by row.
+use mathlib.Core.Bool.{Bool, _&&_, cond}
+use mathlib.Core.List.{List, [], _∷_}
+use lib.Ieee.{Float, lt}
+use Rattle.number.specs.Binary64.{_⊕_, _⊗_, zero, epsilon64}
+use Rattle.number.specs.Extrema.{max}
+use Rattle.number.specs.Parts.{isFinite}
+use Rattle.number.specs.Vectors.{_!_, largest}
+use Rattle.refusal.specs.Rows as Rows
+use Rattle.refusal.specs.Refused.{of, none, isNone}
+use Rattle.point_block.specs.declared.DampingDiagonal.{DampingDiagonal}
+use Rattle.point_block.specs.declared.DampedMatrix.{DampedMatrix}
+
+unfoldable pub largestDiagonal : List Float → Float
+largestDiagonal m = largest (m ! 0 ∷ m ! 4 ∷ m ! 8 ∷ [])
+
+-- each diagonal entry, but no less than 64ε times the largest
+unfoldable pub floored : List Float → List Float
+floored m =
+    let floor = epsilon64 ⊗ largestDiagonal m in
+    max (m ! 0) floor ∷ max (m ! 4) floor ∷ max (m ! 8) floor ∷ []
+
+abbrev pub positiveFinite : Float → Bool
+positiveFinite x = isFinite x && lt zero x
+
+-- "No positive finite largest diagonal: no factor": row 10
+unfoldable pub dampingDiagonal : List Float → DampingDiagonal
+dampingDiagonal m =
+    cond (positiveFinite (largestDiagonal m))
+    (record { values = floored m; refusal = none })
+    (record { values = zero ∷ zero ∷ zero ∷ []; refusal = of Rows.notFactored })
+
+-- the matrix with damping times those entries added along the diagonal
+unfoldable pub addedDiagonal : List Float → Float → List Float → List Float
+addedDiagonal m damping d =
+    m ! 0 ⊕ damping ⊗ d ! 0
+    ∷ m ! 1
+    ∷ m ! 2
+    ∷ m ! 3
+    ∷ m ! 4 ⊕ damping ⊗ d ! 1
+    ∷ m ! 5
+    ∷ m ! 6
+    ∷ m ! 7
+    ∷ m ! 8 ⊕ damping ⊗ d ! 2
+    ∷ []
+
+unfoldable pub dampedMatrix : List Float → Float → DampedMatrix
+dampedMatrix m damping =
+    let diagonal = dampingDiagonal m in
+    cond (isNone (diagonal .refusal))
+    (record { matrix = addedDiagonal m damping (diagonal .values); refusal = diagonal .refusal })
+    (record { matrix = zero ∷ zero ∷ zero ∷ zero ∷ zero ∷ zero ∷ zero ∷ zero ∷ zero ∷ []; refusal = diagonal .refusal })

@@ -1,0 +1,87 @@
+-- The scaled Cholesky factor of a damped 3 by 3 block, `factor_damped` and `solve` of point_block.rs. What is kept is the block's inverse, packed: 00, 10, 11, 20, 21, 22.
+use mathlib.Core.Bool.{Bool, _&&_, cond}
+use mathlib.Core.List.{List, [], _∷_}
+use lib.Ieee.{Float, neg, lt}
+use Rattle.number.specs.Binary64.{_⊕_, _⊖_, _⊗_, _⊘_, zero, half, epsilon64, recip}
+use Rattle.number.specs.Parts.{isFinite}
+use Rattle.number.specs.Root.{sqrt}
+use Rattle.number.specs.Vectors.{_!_}
+use Rattle.refusal.specs.Rows as Rows
+use Rattle.refusal.specs.Refused.{of, none}
+use Rattle.point_block.specs.declared.Cholesky.{Cholesky}
+use Rattle.point_block.specs.declared.PointBlockFactor.{PointBlockFactor}
+use Rattle.point_block.specs.Damping.{floored}
+
+-- the Jacobi scale: the roots of the diagonal entries, none below 64ε of the largest
+unfoldable pub scaleOf : List Float → List Float
+scaleOf m =
+    let d = floored m in
+    sqrt (d ! 0) ∷ sqrt (d ! 1) ∷ sqrt (d ! 2) ∷ []
+
+-- the lower triangle of the scaled matrix, made symmetric
+abbrev pub scaledOf : List Float → List Float → List Float
+scaledOf m s =
+    half ⊗ (m ! 0 ⊕ m ! 0) ⊘ (s ! 0 ⊗ s ! 0)
+    ∷ half ⊗ (m ! 3 ⊕ m ! 1) ⊘ (s ! 1 ⊗ s ! 0)
+    ∷ half ⊗ (m ! 4 ⊕ m ! 4) ⊘ (s ! 1 ⊗ s ! 1)
+    ∷ half ⊗ (m ! 6 ⊕ m ! 2) ⊘ (s ! 2 ⊗ s ! 0)
+    ∷ half ⊗ (m ! 7 ⊕ m ! 5) ⊘ (s ! 2 ⊗ s ! 1)
+    ∷ half ⊗ (m ! 8 ⊕ m ! 8) ⊘ (s ! 2 ⊗ s ! 2)
+    ∷ []
+
+-- the pivots before their roots are taken, and the lower triangle, packed
+unfoldable pub choleskyOf : List Float → Cholesky
+choleskyOf a =
+    let l₀₀ = sqrt (a ! 0) in
+    let l₁₀ = a ! 1 ⊘ l₀₀ in
+    let p₁ = a ! 2 ⊖ l₁₀ ⊗ l₁₀ in
+    let l₁₁ = sqrt p₁ in
+    let l₂₀ = a ! 3 ⊘ l₀₀ in
+    let l₂₁ = (a ! 4 ⊖ l₂₀ ⊗ l₁₀) ⊘ l₁₁ in
+    let p₂ = a ! 5 ⊖ l₂₀ ⊗ l₂₀ ⊖ l₂₁ ⊗ l₂₁ in
+    record { pivots = a ! 0 ∷ p₁ ∷ p₂ ∷ []; lower = l₀₀ ∷ l₁₀ ∷ l₁₁ ∷ l₂₀ ∷ l₂₁ ∷ sqrt p₂ ∷ [] }
+
+-- "Each scaled pivot must be finite and > 64ε"
+abbrev pub goodPivot : Float → Bool
+goodPivot p = isFinite p && lt epsilon64 p
+
+unfoldable pub goodPivots : List Float → Bool
+goodPivots p = goodPivot (p ! 0) && goodPivot (p ! 1) && goodPivot (p ! 2)
+
+-- M is the inverse of the lower triangle; the scaled inverse is Mᵀ M, and the block's has the scale taken out on both sides
+unfoldable pub inverseOf : List Float → List Float → List Float
+inverseOf l s =
+    let m₀₀ = recip (l ! 0) in
+    let m₁₁ = recip (l ! 2) in
+    let m₂₂ = recip (l ! 5) in
+    let m₁₀ = neg (l ! 1) ⊗ m₀₀ ⊗ m₁₁ in
+    let m₂₁ = neg (l ! 4) ⊗ m₁₁ ⊗ m₂₂ in
+    let m₂₀ = neg (l ! 3 ⊗ m₀₀ ⊕ l ! 4 ⊗ m₁₀) ⊗ m₂₂ in
+    let d₀ = recip (s ! 0) in
+    let d₁ = recip (s ! 1) in
+    let d₂ = recip (s ! 2) in
+    (m₀₀ ⊗ m₀₀ ⊕ m₁₀ ⊗ m₁₀ ⊕ m₂₀ ⊗ m₂₀) ⊗ (d₀ ⊗ d₀)
+    ∷ (m₁₁ ⊗ m₁₀ ⊕ m₂₁ ⊗ m₂₀) ⊗ (d₁ ⊗ d₀)
+    ∷ (m₁₁ ⊗ m₁₁ ⊕ m₂₁ ⊗ m₂₁) ⊗ (d₁ ⊗ d₁)
+    ∷ m₂₂ ⊗ m₂₀ ⊗ (d₂ ⊗ d₀)
+    ∷ m₂₂ ⊗ m₂₁ ⊗ (d₂ ⊗ d₁)
+    ∷ m₂₂ ⊗ m₂₂ ⊗ (d₂ ⊗ d₂)
+    ∷ []
+
+-- row 10; every number is +0
+unfoldable pub notFactored : PointBlockFactor
+notFactored = record { inverse = zero ∷ zero ∷ zero ∷ zero ∷ zero ∷ zero ∷ []; refusal = of Rows.notFactored }
+
+unfoldable pub factorDamped : List Float → PointBlockFactor
+factorDamped m =
+    let s = scaleOf m in
+    let c = choleskyOf (scaledOf m s) in
+    cond (goodPivots (c .pivots)) (record { inverse = inverseOf (c .lower) s; refusal = none }) notFactored
+
+-- `solve`: the six stored numbers times a vector
+abbrev pub solve : List Float → List Float → List Float
+solve i x =
+    i ! 0 ⊗ x ! 0 ⊕ i ! 1 ⊗ x ! 1 ⊕ i ! 3 ⊗ x ! 2
+    ∷ i ! 1 ⊗ x ! 0 ⊕ i ! 2 ⊗ x ! 1 ⊕ i ! 4 ⊗ x ! 2
+    ∷ i ! 3 ⊗ x ! 0 ⊕ i ! 4 ⊗ x ! 1 ⊕ i ! 5 ⊗ x ! 2
+    ∷ []

@@ -1,0 +1,5 @@
+-- Module 3 of document 01: point_block.rs.
+pub mod Damping
+pub mod Factor
+pub mod Condition
+pub mod Lone

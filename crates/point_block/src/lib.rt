@@ -1,0 +1,322 @@
+// SPDX-FileCopyrightText: 2026 Pierre Moulon and OpenMVG Rust contributors
+// SPDX-License-Identifier: MIT OR Apache-2.0
+
+// Scaled Cholesky factorization for symmetric 3 by 3 point blocks: kernel/point_block.rs. A matrix is
+// nine numbers, row by row.
+ghost use mathlib.Core.Path.{_≡_};
+ghost use Rattle.point_block.specs.Condition as Condition;
+ghost use Rattle.point_block.specs.Damping as Damping;
+ghost use Rattle.point_block.specs.Factor as Factor;
+ghost use Rattle.point_block.specs.Lone as Lone;
+use refusal::Refusal;
+
+// 64ε
+const EPSILON64: f64 = 1.4210854715202004e-14;
+
+// What damping is multiplied with. Beside a refusal every number is +0, here and in the structs below.
+pub struct DampingDiagonal {
+    pub values: [f64; 3],
+    pub refusal: Refusal,
+}
+
+pub struct DampedMatrix {
+    pub matrix: [f64; 9],
+    pub refusal: Refusal,
+}
+
+// The pivots before their roots, and the lower triangle: 00, 10, 11, 20, 21, 22
+struct Cholesky {
+    pivots: [f64; 3],
+    lower: [f64; 6],
+}
+
+// The inverse of a symmetric 3 by 3 block, packed lower triangle: 00, 10, 11, 20, 21, 22
+pub struct PointBlockFactor {
+    pub inverse: [f64; 6],
+    pub refusal: Refusal,
+}
+
+// A factor with its rcond: document 01's lone factor
+pub struct LoneFactor {
+    pub inverse: [f64; 6],
+    pub rcond: f64,
+    pub refusal: Refusal,
+}
+
+// Row 3 lets a damping through that is finite and not below 0.
+pub fn good_damping(damping: f64) -> bool
+    ensures { λ r. ⌜ r ≡ Lone.goodDamping damping ⌝ }
+{
+    number::is_finite(damping) & !(damping < 0.0)
+}
+
+impl PointBlockFactor {
+    // The lone factor: tests row 3, then row 10.
+    pub fn new(matrix: [f64; 9], damping: f64) -> LoneFactor
+        ensures { λ r. ⌜ r ≡ Lone.loneFactor matrix damping ⌝ }
+    {
+        if !good_damping(damping) {
+            return lone_refused(refusal::DAMPING);
+        }
+        let factor = Self::factor(matrix, damping);
+        let refusal = factor.refusal;
+        if !refusal.is_none() {
+            return lone_refused(refusal::NOT_FACTORED);
+        }
+        let inverse = factor.inverse;
+        LoneFactor {
+            inverse,
+            rcond: factor.reciprocal_condition_number(matrix),
+            refusal: Refusal::none(),
+        }
+    }
+
+    // The factor of the matrix at a damping, whatever that is.
+    pub fn factor(matrix: [f64; 9], damping: f64) -> Self
+        ensures { λ r. ⌜ r ≡ Lone.factor matrix damping ⌝ }
+    {
+        let damped = Self::damped_matrix(matrix, damping);
+        let refusal = damped.refusal;
+        if !refusal.is_none() {
+            return not_factored();
+        }
+        let damped_matrix = damped.matrix;
+        Self::factor_damped(damped_matrix)
+    }
+
+    pub fn damped_matrix(matrix: [f64; 9], damping: f64) -> DampedMatrix
+        ensures { λ r. ⌜ r ≡ Damping.dampedMatrix matrix damping ⌝ }
+    {
+        let diagonal = Self::damping_diagonal(matrix);
+        let refusal = diagonal.refusal;
+        if !refusal.is_none() {
+            return DampedMatrix {
+                matrix: [0.0; 9],
+                refusal,
+            };
+        }
+        let values = diagonal.values;
+        DampedMatrix {
+            matrix: added_diagonal(matrix, damping, values),
+            refusal,
+        }
+    }
+
+    pub fn damping_diagonal(matrix: [f64; 9]) -> DampingDiagonal
+        ensures { λ r. ⌜ r ≡ Damping.dampingDiagonal matrix ⌝ }
+    {
+        let scale = largest_diagonal(matrix);
+        if !positive_finite(scale) {
+            return DampingDiagonal {
+                values: [0.0; 3],
+                refusal: Refusal::of(refusal::NOT_FACTORED),
+            };
+        }
+        DampingDiagonal {
+            values: floored(matrix, scale),
+            refusal: Refusal::none(),
+        }
+    }
+
+    // The factor of a matrix that is damped already.
+    pub fn factor_damped(damped: [f64; 9]) -> Self
+        ensures { λ r. ⌜ r ≡ Factor.factorDamped damped ⌝ }
+    {
+        let scale = scale_of(damped);
+        let cholesky = cholesky_of(scaled_of(damped, scale));
+        let pivots = cholesky.pivots;
+        if !good_pivots(pivots) {
+            return not_factored();
+        }
+        let lower = cholesky.lower;
+        Self {
+            inverse: inverse_of(lower, scale),
+            refusal: Refusal::none(),
+        }
+    }
+
+    pub fn solve(self, x: [f64; 3]) -> [f64; 3]
+        ensures { λ r. ⌜ r ≡ Factor.solve (self .inverse) x ⌝ }
+    {
+        let i = self.inverse;
+        [
+            i[0] * x[0] + i[1] * x[1] + i[3] * x[2],
+            i[1] * x[0] + i[2] * x[1] + i[4] * x[2],
+            i[3] * x[0] + i[4] * x[1] + i[5] * x[2],
+        ]
+    }
+
+    // 1 ÷ (norm of the matrix × norm of the inverse), and 0 where that product is not positive and finite.
+    pub fn reciprocal_condition_number(self, matrix: [f64; 9]) -> f64
+        ensures { λ r. ⌜ r ≡ Condition.reciprocalConditionNumber (self .inverse) matrix ⌝ }
+    {
+        let denominator = infinity_norm(matrix) * infinity_norm(self.inverse_matrix());
+        if positive_finite(denominator) {
+            number::recip(denominator)
+        } else {
+            0.0
+        }
+    }
+
+    // The inverse by columns, so that ∞ × 0 in a solve shows.
+    fn inverse_matrix(self) -> [f64; 9]
+        ensures { λ r. ⌜ r ≡ Condition.inverseMatrix (self .inverse) ⌝ }
+    {
+        let x = self.solve([1.0, 0.0, 0.0]);
+        let y = self.solve([0.0, 1.0, 0.0]);
+        let z = self.solve([0.0, 0.0, 1.0]);
+        [x[0], y[0], z[0], x[1], y[1], z[1], x[2], y[2], z[2]]
+    }
+}
+
+fn not_factored() -> PointBlockFactor
+    ensures { λ r. ⌜ r ≡ Factor.notFactored ⌝ }
+{
+    PointBlockFactor {
+        inverse: [0.0; 6],
+        refusal: Refusal::of(refusal::NOT_FACTORED),
+    }
+}
+
+fn lone_refused(row: u32) -> LoneFactor
+    ensures { λ r. ⌜ r ≡ Lone.refused row ⌝ }
+{
+    LoneFactor {
+        inverse: [0.0; 6],
+        rcond: 0.0,
+        refusal: Refusal::of(row),
+    }
+}
+
+fn positive_finite(x: f64) -> bool
+    ensures { λ r. ⌜ r ≡ Damping.positiveFinite x ⌝ }
+{
+    number::is_finite(x) & (0.0 < x)
+}
+
+fn largest_diagonal(m: [f64; 9]) -> f64
+    ensures { λ r. ⌜ r ≡ Damping.largestDiagonal m ⌝ }
+{
+    number::larger(number::larger(number::larger(0.0, m[0]), m[4]), m[8])
+}
+
+// The diagonal, but no entry below 64ε of the largest, which is `scale`.
+fn floored(m: [f64; 9], scale: f64) -> [f64; 3]
+    requires { ⌜ scale ≡ Damping.largestDiagonal m ⌝ }
+    ensures { λ r. ⌜ r ≡ Damping.floored m ⌝ }
+{
+    let floor = EPSILON64 * scale;
+    [
+        number::larger(floor, m[0]),
+        number::larger(floor, m[4]),
+        number::larger(floor, m[8]),
+    ]
+}
+
+fn added_diagonal(m: [f64; 9], damping: f64, d: [f64; 3]) -> [f64; 9]
+    ensures { λ r. ⌜ r ≡ Damping.addedDiagonal m damping d ⌝ }
+{
+    [
+        m[0] + damping * d[0],
+        m[1],
+        m[2],
+        m[3],
+        m[4] + damping * d[1],
+        m[5],
+        m[6],
+        m[7],
+        m[8] + damping * d[2],
+    ]
+}
+
+// The Jacobi scale: the roots of the floored diagonal.
+fn scale_of(m: [f64; 9]) -> [f64; 3]
+    ensures { λ r. ⌜ r ≡ Factor.scaleOf m ⌝ }
+{
+    let d = floored(m, largest_diagonal(m));
+    [number::sqrt(d[0]), number::sqrt(d[1]), number::sqrt(d[2])]
+}
+
+// The lower triangle of the scaled matrix, made symmetric
+fn scaled_of(m: [f64; 9], s: [f64; 3]) -> [f64; 6]
+    ensures { λ r. ⌜ r ≡ Factor.scaledOf m s ⌝ }
+{
+    [
+        0.5 * (m[0] + m[0]) / (s[0] * s[0]),
+        0.5 * (m[3] + m[1]) / (s[1] * s[0]),
+        0.5 * (m[4] + m[4]) / (s[1] * s[1]),
+        0.5 * (m[6] + m[2]) / (s[2] * s[0]),
+        0.5 * (m[7] + m[5]) / (s[2] * s[1]),
+        0.5 * (m[8] + m[8]) / (s[2] * s[2]),
+    ]
+}
+
+fn cholesky_of(a: [f64; 6]) -> Cholesky
+    ensures { λ r. ⌜ r ≡ Factor.choleskyOf a ⌝ }
+{
+    let p0 = a[0];
+    let l00 = number::sqrt(p0);
+    let l10 = a[1] / l00;
+    let p1 = a[2] - l10 * l10;
+    let l11 = number::sqrt(p1);
+    let l20 = a[3] / l00;
+    let l21 = (a[4] - l20 * l10) / l11;
+    let p2 = a[5] - l20 * l20 - l21 * l21;
+    let l22 = number::sqrt(p2);
+    Cholesky {
+        pivots: [p0, p1, p2],
+        lower: [l00, l10, l11, l20, l21, l22],
+    }
+}
+
+fn good_pivot(p: f64) -> bool
+    ensures { λ r. ⌜ r ≡ Factor.goodPivot p ⌝ }
+{
+    number::is_finite(p) & (EPSILON64 < p)
+}
+
+fn good_pivots(p: [f64; 3]) -> bool
+    ensures { λ r. ⌜ r ≡ Factor.goodPivots p ⌝ }
+{
+    good_pivot(p[0]) & good_pivot(p[1]) & good_pivot(p[2])
+}
+
+// The block's inverse from its lower triangle and its scale: M is the triangle's inverse, the scaled
+// inverse is Mᵀ M, and the scale is taken out on both sides.
+fn inverse_of(l: [f64; 6], s: [f64; 3]) -> [f64; 6]
+    ensures { λ r. ⌜ r ≡ Factor.inverseOf l s ⌝ }
+{
+    let m00 = 1.0 / l[0];
+    let m11 = 1.0 / l[2];
+    let m22 = 1.0 / l[5];
+    let m10 = -l[1] * m00 * m11;
+    let m21 = -l[4] * m11 * m22;
+    let m20 = -(l[3] * m00 + l[4] * m10) * m22;
+    let d0 = 1.0 / s[0];
+    let d1 = 1.0 / s[1];
+    let d2 = 1.0 / s[2];
+    [
+        (m00 * m00 + m10 * m10 + m20 * m20) * (d0 * d0),
+        (m11 * m10 + m21 * m20) * (d1 * d0),
+        (m11 * m11 + m21 * m21) * (d1 * d1),
+        m22 * m20 * (d2 * d0),
+        m22 * m21 * (d2 * d1),
+        m22 * m22 * (d2 * d2),
+    ]
+}
+
+// The largest sum of a row's absolute values; each sum begins at −0.
+fn infinity_norm(m: [f64; 9]) -> f64
+    ensures { λ r. ⌜ r ≡ Condition.infinityNorm m ⌝ }
+{
+    let x = row_norm(m[0], m[1], m[2]);
+    let y = row_norm(m[3], m[4], m[5]);
+    let z = row_norm(m[6], m[7], m[8]);
+    number::larger(number::larger(number::larger(0.0, x), y), z)
+}
+
+fn row_norm(x: f64, y: f64, z: f64) -> f64
+    ensures { λ r. ⌜ r ≡ Condition.rowNorm x y z ⌝ }
+{
+    -0.0 + number::abs(x) + number::abs(y) + number::abs(z)
+}

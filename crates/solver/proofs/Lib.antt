@@ -1,0 +1,2 @@
+-- Laws of the solve.
+pub mod Laws

@@ -1,0 +1,111 @@
+-- `solve_positive_definite` of solver.rs at 5, row by row in the Rust's order. The products of an entry are summed from −0, an empty sum too: a − (−0) turns −0 into +0.
+use mathlib.Core.Bool.{Bool, not, _&&_, cond}
+use mathlib.Core.List.{List, [], _∷_}
+use lib.Ieee.{Float, le}
+use Rattle.number.specs.Binary64.{_⊖_, _⊗_, _⊘_, zero}
+use Rattle.number.specs.Root.{sqrt}
+use Rattle.number.specs.Vectors.{_!_, sum, allFinite}
+use Rattle.refusal.specs.Rows as Rows
+use Rattle.refusal.specs.Refused.{of, none}
+use Rattle.solver.specs.declared.Row.{Row}
+use Rattle.solver.specs.declared.Lower.{Lower}
+use Rattle.solver.specs.declared.Solved.{Solved}
+
+-- The rows of the lower triangle: an entry left of the diagonal is its sum divided by the diagonal entry above, and the diagonal entry is the root of its sum, the pivot.
+unfoldable pub row0 : List Float → Row
+row0 a =
+    let s₀ = a ! 0 ⊖ sum [] in
+    record { sums = s₀ ∷ zero ∷ zero ∷ zero ∷ zero ∷ []; entries = sqrt s₀ ∷ zero ∷ zero ∷ zero ∷ zero ∷ [] }
+
+unfoldable pub row1 : List Float → List Float → Row
+row1 a l₀ =
+    let s₀ = a ! 5 ⊖ sum [] in
+    let e₀ = s₀ ⊘ l₀ ! 0 in
+    let s₁ = a ! 6 ⊖ sum (e₀ ⊗ e₀ ∷ []) in
+    record { sums = s₀ ∷ s₁ ∷ zero ∷ zero ∷ zero ∷ []; entries = e₀ ∷ sqrt s₁ ∷ zero ∷ zero ∷ zero ∷ [] }
+
+unfoldable pub row2 : List Float → List Float → List Float → Row
+row2 a l₀ l₁ =
+    let s₀ = a ! 10 ⊖ sum [] in
+    let e₀ = s₀ ⊘ l₀ ! 0 in
+    let s₁ = a ! 11 ⊖ sum (e₀ ⊗ l₁ ! 0 ∷ []) in
+    let e₁ = s₁ ⊘ l₁ ! 1 in
+    let s₂ = a ! 12 ⊖ sum (e₀ ⊗ e₀ ∷ e₁ ⊗ e₁ ∷ []) in
+    record { sums = s₀ ∷ s₁ ∷ s₂ ∷ zero ∷ zero ∷ []; entries = e₀ ∷ e₁ ∷ sqrt s₂ ∷ zero ∷ zero ∷ [] }
+
+unfoldable pub row3 : List Float → List Float → List Float → List Float → Row
+row3 a l₀ l₁ l₂ =
+    let s₀ = a ! 15 ⊖ sum [] in
+    let e₀ = s₀ ⊘ l₀ ! 0 in
+    let s₁ = a ! 16 ⊖ sum (e₀ ⊗ l₁ ! 0 ∷ []) in
+    let e₁ = s₁ ⊘ l₁ ! 1 in
+    let s₂ = a ! 17 ⊖ sum (e₀ ⊗ l₂ ! 0 ∷ e₁ ⊗ l₂ ! 1 ∷ []) in
+    let e₂ = s₂ ⊘ l₂ ! 2 in
+    let s₃ = a ! 18 ⊖ sum (e₀ ⊗ e₀ ∷ e₁ ⊗ e₁ ∷ e₂ ⊗ e₂ ∷ []) in
+    record { sums = s₀ ∷ s₁ ∷ s₂ ∷ s₃ ∷ zero ∷ []; entries = e₀ ∷ e₁ ∷ e₂ ∷ sqrt s₃ ∷ zero ∷ [] }
+
+unfoldable pub row4 : List Float → List Float → List Float → List Float → List Float → Row
+row4 a l₀ l₁ l₂ l₃ =
+    let s₀ = a ! 20 ⊖ sum [] in
+    let e₀ = s₀ ⊘ l₀ ! 0 in
+    let s₁ = a ! 21 ⊖ sum (e₀ ⊗ l₁ ! 0 ∷ []) in
+    let e₁ = s₁ ⊘ l₁ ! 1 in
+    let s₂ = a ! 22 ⊖ sum (e₀ ⊗ l₂ ! 0 ∷ e₁ ⊗ l₂ ! 1 ∷ []) in
+    let e₂ = s₂ ⊘ l₂ ! 2 in
+    let s₃ = a ! 23 ⊖ sum (e₀ ⊗ l₃ ! 0 ∷ e₁ ⊗ l₃ ! 1 ∷ e₂ ⊗ l₃ ! 2 ∷ []) in
+    let e₃ = s₃ ⊘ l₃ ! 3 in
+    let s₄ = a ! 24 ⊖ sum (e₀ ⊗ e₀ ∷ e₁ ⊗ e₁ ∷ e₂ ⊗ e₂ ∷ e₃ ⊗ e₃ ∷ []) in
+    record { sums = s₀ ∷ s₁ ∷ s₂ ∷ s₃ ∷ s₄ ∷ []; entries = e₀ ∷ e₁ ∷ e₂ ∷ e₃ ∷ sqrt s₄ ∷ [] }
+
+unfoldable pub lowerOf : List Float → Lower
+lowerOf a =
+    let r₀ = row0 a in
+    let r₁ = row1 a (r₀ .entries) in
+    let r₂ = row2 a (r₀ .entries) (r₁ .entries) in
+    let r₃ = row3 a (r₀ .entries) (r₁ .entries) (r₂ .entries) in
+    let r₄ = row4 a (r₀ .entries) (r₁ .entries) (r₂ .entries) (r₃ .entries) in
+    record { r0 = r₀; r1 = r₁; r2 = r₂; r3 = r₃; r4 = r₄ }
+
+-- every sum of a row is finite, and the pivot is not at or below 0
+unfoldable pub goodSums : List Float → Float → Bool
+goodSums sums pivot = allFinite sums && not (le pivot zero)
+
+unfoldable pub goodRows : Lower → Bool
+goodRows l =
+    goodSums (l .r0 .sums) (l .r0 .sums ! 0) && goodSums (l .r1 .sums) (l .r1 .sums ! 1) && goodSums (l .r2 .sums) (l .r2 .sums ! 2)
+    && goodSums (l .r3 .sums) (l .r3 .sums ! 3)
+    && goodSums (l .r4 .sums) (l .r4 .sums ! 4)
+
+-- L y = b
+unfoldable pub forward : List Float → List Float → List Float → List Float → List Float → List Float → List Float
+forward l₀ l₁ l₂ l₃ l₄ b =
+    let y₀ = b ! 0 ⊘ l₀ ! 0 in
+    let y₁ = (b ! 1 ⊖ l₁ ! 0 ⊗ y₀) ⊘ l₁ ! 1 in
+    let y₂ = (b ! 2 ⊖ l₂ ! 0 ⊗ y₀ ⊖ l₂ ! 1 ⊗ y₁) ⊘ l₂ ! 2 in
+    let y₃ = (b ! 3 ⊖ l₃ ! 0 ⊗ y₀ ⊖ l₃ ! 1 ⊗ y₁ ⊖ l₃ ! 2 ⊗ y₂) ⊘ l₃ ! 3 in
+    let y₄ = (b ! 4 ⊖ l₄ ! 0 ⊗ y₀ ⊖ l₄ ! 1 ⊗ y₁ ⊖ l₄ ! 2 ⊗ y₂ ⊖ l₄ ! 3 ⊗ y₃) ⊘ l₄ ! 4 in
+    y₀ ∷ y₁ ∷ y₂ ∷ y₃ ∷ y₄ ∷ []
+
+-- Lᵀ x = y
+unfoldable pub backward : List Float → List Float → List Float → List Float → List Float → List Float → List Float
+backward l₀ l₁ l₂ l₃ l₄ y =
+    let x₄ = y ! 4 ⊘ l₄ ! 4 in
+    let x₃ = (y ! 3 ⊖ l₄ ! 3 ⊗ x₄) ⊘ l₃ ! 3 in
+    let x₂ = (y ! 2 ⊖ l₃ ! 2 ⊗ x₃ ⊖ l₄ ! 2 ⊗ x₄) ⊘ l₂ ! 2 in
+    let x₁ = (y ! 1 ⊖ l₂ ! 1 ⊗ x₂ ⊖ l₃ ! 1 ⊗ x₃ ⊖ l₄ ! 1 ⊗ x₄) ⊘ l₁ ! 1 in
+    let x₀ = (y ! 0 ⊖ l₁ ! 0 ⊗ x₁ ⊖ l₂ ! 0 ⊗ x₂ ⊖ l₃ ! 0 ⊗ x₃ ⊖ l₄ ! 0 ⊗ x₄) ⊘ l₀ ! 0 in
+    x₀ ∷ x₁ ∷ x₂ ∷ x₃ ∷ x₄ ∷ []
+
+unfoldable pub solution : Lower → List Float → List Float
+solution l b =
+    backward (l .r0 .entries) (l .r1 .entries) (l .r2 .entries) (l .r3 .entries) (l .r4 .entries)
+    (forward (l .r0 .entries) (l .r1 .entries) (l .r2 .entries) (l .r3 .entries) (l .r4 .entries) b)
+
+-- Row 11 where any input, any sum or any result is not finite or a pivot ≤ 0. The Rust leaves at the first of these; what it would have worked out afterwards decides nothing.
+unfoldable pub solvePositiveDefinite : List Float → List Float → Solved
+solvePositiveDefinite a b =
+    let l = lowerOf a in
+    let x = solution l b in
+    cond (allFinite a && allFinite b && goodRows l && allFinite x)
+    (record { x = x; refusal = none })
+    (record { x = zero ∷ zero ∷ zero ∷ zero ∷ zero ∷ []; refusal = of Rows.notSolved })
