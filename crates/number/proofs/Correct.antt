@@ -182,7 +182,7 @@ above-zero (fin false m e) s a l h = (sym (h .0), first-pos a (down e) (subst (�
     some n z q = lt-of-le-of-lt zero-le (lt-of-lt-of-le (ltb→lt z (n * 1) q) (le-of-eq (mul-one n)))
 
 module _ (x : Float) (n d k r : ℕ) (is : sqrt x ≡ nearestRoot n) (counts : magnitude x * 2 ^ 1074 ≡ n) (e : n ≡ d * 2 ^ (2 * k)) (lo : 2 ^ 104 ≤ d) (hi : d < 2 ^ 106)
-    (near : NearestRoot d r) (small : k < 2000) where
+    (near : NearestRoot d r) (small : k < 2000) (argument : T (isFinite x)) (positive : T (lt Binary64.zero x)) where
   low-r : 2 ^ 52 ≤ r
   low-r = root-low n d k r e lo hi near
 
@@ -197,6 +197,8 @@ module _ (x : Float) (n d k r : ℕ) (is : sqrt x ≡ nearestRoot n) (counts : m
 
   correct : CorrectlyRounded x (sqrt x)
   correct = record {
+    argument = argument;
+    positive = positive;
     held = rw is (root-fits n d k r e lo hi near small);
     finite = value-finite (sqrt x) (r * 2 ^ k) (2 ^ low binary64) value;
     signless = value-nonneg (sqrt x) (r * 2 ^ k) (2 ^ low binary64) value;
@@ -230,6 +232,8 @@ sqrt-correct x held finite positive = go (grid x held finite)
         (s .high-d)
         (nearest-is (s .d) (wholeRoot 53 (s .d)) 1 (lt-of-lt-of-le (lit< tt) (s .low-d)) (lit< tt) (wholeRoot-is 53 (s .d) (s .high-d)))
         (s .small)
+        finite
+        positive
       where
         room : (j : ℕ) → j < 2047 → j + 1074 < 3200
         room j h = omega arith

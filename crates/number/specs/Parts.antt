@@ -27,7 +27,7 @@ abs nan = nan
 abs (inf s) = inf false
 abs (fin s m e) = fin false m e
 
--- how many times the smallest positive value, 2 ^ -1074, a finite binary64 is without its sign: a whole number
+-- how many times the smallest positive value, 2 ^ -1074, a finite binary64 is without its sign: a whole number. It says nothing of a NaN or an infinity.
 unfoldable pub magnitude : Float → ℕ
 magnitude nan = 0
 magnitude (inf s) = 0

@@ -2,7 +2,8 @@
 use Prim.Native.Nat.{ℕ, zero, suc, _+_, _-_, _*_, _/_, _^_, _<_, compare}
 use mathlib.Core.Bool.{true, false, cond}
 use lib.Dec.{T, leb}
-use lib.Ieee.{Float, nan, inf, fin, binary64, size, nearest, units, fits}
+use lib.Ieee.{Float, nan, inf, fin, binary64, size, nearest, units, fits, lt}
+use Rattle.number.specs.Binary64 as Binary64
 use Rattle.number.specs.Parts.{isFinite, nonneg, magnitude}
 
 -- the whole part of the root of an n below 4 ^ d, digit by digit
@@ -12,7 +13,7 @@ wholeRoot (suc d) n =
     let r = 2 * wholeRoot d (n / 4) in
     cond (leb (suc r * suc r) n) (suc r) r
 
--- The root of n units of 2 ^ -1074, with k of its digits dropped and the others, of which there are at most 53, kept as q.
+-- √n, counted in units of 2 ^ -1074, with k of its digits dropped and the others, of which there are at most 53, kept as q.
 -- Half-way between q and q + 1 lies (2 * q + 1) * 2 ^ k / 2, whose square is compared with n.
 unfoldable pub roundedRoot : ℕ → ℕ → Float
 unfolding wholeRoot
@@ -25,7 +26,7 @@ unfoldable pub nearestRoot : ℕ → Float
 unfolding roundedRoot
 nearestRoot n = roundedRoot n ((size n + 1) / 2 - 53)
 
--- `f64::sqrt`. The root of V units is, in units, the root of V * 2 ^ 1074.
+-- `f64::sqrt`. The root of V units, counted in units, is √(V * 2 ^ 1074).
 unfoldable pub sqrt : Float → Float
 unfolding nearestRoot
 sqrt nan = nan
@@ -35,10 +36,12 @@ sqrt (fin s zero e) = fin s zero e
 sqrt (fin true (suc m) e) = nan
 sqrt (fin false (suc m) e) = nearestRoot (magnitude (fin false (suc m) e) * 2 ^ 1074)
 
--- r is the square root of x that IEEE 754 asks for: a finite binary64 not below zero, and no other lies as near to the exact root.
+-- x is finite and above zero, and r is the square root that IEEE 754 asks for: a finite binary64 not below zero, and no other lies as near to the exact root.
 -- A y below r lies further from it if the middle of the two lies below the exact root, and a y above r if the middle lies above: squared, in units of 2 ^ -1074.
 -- No tie occurs, so each is strict. (A y below zero lies further away than +0.)
 pub record CorrectlyRounded (x r : Float) : Type 0 where
+  pub argument : T (isFinite x)
+  pub positive : T (lt Binary64.zero x)
   pub held : T (fits binary64 r)
   pub finite : T (isFinite r)
   pub signless : T (nonneg r)

@@ -1,5 +1,5 @@
 -- Small vectors and matrices: flat lists, row by row. Sums and largest entries as the Rust's iterators work them out.
-use Prim.Native.Nat.{ℕ}
+use Prim.Native.Nat.{ℕ, zero as zero·, suc}
 use mathlib.Core.Bool.{Bool, true, _&&_}
 use mathlib.Core.List.{List, [], _∷_}
 use lib.ListN.{getD}
@@ -39,3 +39,8 @@ largerFrom low (x ∷ xs) = largerFrom (larger low x) xs
 unfoldable pub allFinite : List Float → Bool
 allFinite [] = true
 allFinite (x ∷ xs) = isFinite x && allFinite xs
+
+-- the list of f 0, f 1, .. of n entries
+abbrev pub tabulate : ℕ → (ℕ → Float) → List Float
+tabulate zero· f = []
+tabulate (suc n) f = f 0 ∷ tabulate n (λ i. f (suc i))

@@ -4,7 +4,8 @@ ghost use Rattle.number.specs.Binary64 as Binary64;
 ghost use Rattle.number.specs.Parts as Parts;
 ghost use Rattle.number.specs.Vectors as Vectors;
 
-// `f64::abs`. The difference from 0 turns −0 into +0, where a change of sign would keep the NaN alone.
+// `f64::abs`. The difference from 0 gives +0 for either zero, where a change of sign would turn +0
+// into −0.
 pub fn abs(x: f64) -> f64
     ensures { λ r. ⌜ r ≡ Parts.abs x ⌝ }
 {

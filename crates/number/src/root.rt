@@ -41,7 +41,7 @@ fn root_of_pattern(b: u64) -> u64
     }
 }
 
-// The pattern of the root of m * 2 ^ (power + 52) units of 2 ^ -1074, where m has 53 digits.
+// The pattern of √(m * 2 ^ (power + 52)) units of 2 ^ -1074, where m has 53 digits.
 fn root_of_digits(m: u64, power: u64) -> u64
     requires { ⌜ (2 ^ 52 ≤ m) × (m < 2 ^ 53) × (power < 4000) ⌝ }
     ensures { λ r. ⌜ r ≡ Ieee.toBits binary64 (Root.nearestRoot (m * 2 ^ (power + 52))) ⌝ }

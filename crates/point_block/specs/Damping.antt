@@ -14,7 +14,7 @@ use Rattle.point_block.specs.declared.DampedMatrix.{DampedMatrix}
 unfoldable pub largestDiagonal : List Float → Float
 largestDiagonal m = largest (m ! 0 ∷ m ! 4 ∷ m ! 8 ∷ [])
 
--- each diagonal entry, but no less than 64ε times the largest
+-- each diagonal entry, but no less than 64ε times the largest; a NaN gives way to that floor
 unfoldable pub floored : List Float → List Float
 floored m =
     let floor = epsilon64 ⊗ largestDiagonal m in

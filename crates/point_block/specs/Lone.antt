@@ -1,4 +1,4 @@
--- `PointBlockFactor::new`: the factor of a block at a damping, and the lone factor of document 01, which tests row 3, then row 10, and has its rcond beside it.
+-- The factor of a block at a damping, which is the Rust's `PointBlockFactor::new`, and the lone factor of document 01, which tests row 3, then row 10, and has its rcond beside it.
 use Prim.Native.Nat.{ℕ}
 use mathlib.Core.Bool.{Bool, not, _&&_, cond}
 use mathlib.Core.List.{List, [], _∷_}

@@ -71,7 +71,7 @@ impl PointBlockFactor {
         }
     }
 
-    // The factor of the matrix at a damping, whatever that is.
+    // The factor of the matrix at a damping: the Rust's `new`. Row 3 is not tested here.
     pub fn factor(matrix: [f64; 9], damping: f64) -> Self
         ensures { λ r. ⌜ r ≡ Lone.factor matrix damping ⌝ }
     {

@@ -40,7 +40,7 @@ pub fn pixel_projection(camera: PinholeCamera, observation: [f64; 2], point: [f6
     projected
 }
 
-// Whether the coordinates are finite and the depth is above 64ε of the largest of them.
+// Whether the coordinates are finite and the depth is above 64ε of the largest absolute value of them.
 fn in_front(point: [f64; 3]) -> bool
     ensures { λ r. ⌜ r ≡ Projection.inFront point ⌝ }
 {

@@ -1,7 +1,7 @@
 -- The numbers of document 01's rows, "Refusals by number".
 use Prim.Native.Nat.{ℕ}
 
--- the lent lengths do not belong to one count n
+-- the lent lengths, the room's (3n) included, do not belong to one count n
 abbrev pub lengths : ℕ
 lengths = 1
 
