@@ -1,29 +1,10 @@
-// The C interface: each public call over plain numbers, proved like all others. `include/pixel_step.h`
-// declares them.
-ghost use mathlib.Core.Path.{_≡_};
-ghost use Rattle.number.specs.Extrema as Extrema;
-ghost use Rattle.number.specs.Root as Root;
-
-// `f64::sqrt`
-#[no_mangle]
-pub extern "C" fn pixel_step_sqrt(x: f64) -> f64
-    ensures { λ r. ⌜ r ≡ Root.sqrt x ⌝ }
-{
-    number::sqrt(x)
-}
-
-// `f64::max`, with +0 of unlike zeros
-#[no_mangle]
-pub extern "C" fn pixel_step_max(x: f64, y: f64) -> f64
-    ensures { λ r. ⌜ r ≡ Extrema.max x y ⌝ }
-{
-    number::max(x, y)
-}
-
-// `f64::min`, with −0 of unlike zeros
-#[no_mangle]
-pub extern "C" fn pixel_step_min(x: f64, y: f64) -> f64
-    ensures { λ r. ⌜ r ≡ Extrema.min x y ⌝ }
-{
-    number::min(x, y)
-}
+// The C interface: each public call over numbers and lent slices, proved like all others.
+// `include/pixel_step.h` declares them. A slice passes as a pointer and then a length.
+//
+// A call with an `out` answers 0 and writes its result there, or answers a refusal as one number
+// (`memory::code`) and writes nothing. Lengths that do not fit are row 1.
+mod memory;
+pub mod numbers;
+pub mod point_blocks;
+pub mod projections;
+pub mod solvers;

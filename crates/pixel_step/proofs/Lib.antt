@@ -1,0 +1,2 @@
+-- Laws of lent slices and of the answers stored in them.
+pub mod Laws

@@ -1,0 +1,23 @@
+-- `pixel_step::memory::code` meets its contract. Assumes nothing.
+use mathlib.Core.Path.{refl}
+use Rattle.pixel_step.specs.Interface.{code}
+use native.Mathlib.Omega.{arith}
+use Rattle.pixel_step.proofs.memory.code.Statement.{statement}
+use Rattle.pixel_step.proofs.memory.code.Tie as tie
+
+returns : tie.Need-returns
+unfolding code
+returns c = refl
+
+pub code-spec : {M : Type 1} → statement M
+code-spec =
+    tie.close
+    (tie.spec
+    (λ c. omega arith)
+    (λ c. omega arith)
+    (λ c. omega arith)
+    (λ c. omega arith)
+    (λ c. omega arith)
+    (λ c. omega arith)
+    (λ c. omega arith)
+    returns)

@@ -1,0 +1,39 @@
+-- `pixel_step::memory::vector25` meets its contract. Assumes nothing.
+use Rattle.pixel_step.proofs.Laws.{whole}
+use native.Mathlib.Omega.{arith}
+use Rattle.pixel_step.proofs.memory.vector25.Statement.{statement}
+use Rattle.pixel_step.proofs.memory.vector25.Tie as tie
+
+returns : tie.Need-returns
+returns c = whole _ 25 (c .before .before .before .before .before .before .before .before .before .before .before .before .before .before .before .before .before .before .before .before .before .before .before .before .before .pre)
+
+pub vector25-spec : {M : Type 1} → statement M
+vector25-spec =
+    tie.close
+    (tie.spec
+    (λ c. omega arith)
+    (λ c. omega arith)
+    (λ c. omega arith)
+    (λ c. omega arith)
+    (λ c. omega arith)
+    (λ c. omega arith)
+    (λ c. omega arith)
+    (λ c. omega arith)
+    (λ c. omega arith)
+    (λ c. omega arith)
+    (λ c. omega arith)
+    (λ c. omega arith)
+    (λ c. omega arith)
+    (λ c. omega arith)
+    (λ c. omega arith)
+    (λ c. omega arith)
+    (λ c. omega arith)
+    (λ c. omega arith)
+    (λ c. omega arith)
+    (λ c. omega arith)
+    (λ c. omega arith)
+    (λ c. omega arith)
+    (λ c. omega arith)
+    (λ c. omega arith)
+    (λ c. omega arith)
+    returns)

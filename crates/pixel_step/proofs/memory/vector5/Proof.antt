@@ -1,0 +1,19 @@
+-- `pixel_step::memory::vector5` meets its contract. Assumes nothing.
+use Rattle.pixel_step.proofs.Laws.{whole}
+use native.Mathlib.Omega.{arith}
+use Rattle.pixel_step.proofs.memory.vector5.Statement.{statement}
+use Rattle.pixel_step.proofs.memory.vector5.Tie as tie
+
+returns : tie.Need-returns
+returns c = whole _ 5 (c .before .before .before .before .before .pre)
+
+pub vector5-spec : {M : Type 1} → statement M
+vector5-spec =
+    tie.close
+    (tie.spec
+    (λ c. omega arith)
+    (λ c. omega arith)
+    (λ c. omega arith)
+    (λ c. omega arith)
+    (λ c. omega arith)
+    returns)

@@ -1,0 +1,50 @@
+-- `pixel_step::point_blocks::pixel_step_damping_diagonal` meets its contract. Assumes nothing.
+use mathlib.Core.Path.{_≡_, sym, ap, _∙_}
+use mathlib.Core.List.{List}
+use lib.ListN.{length}
+use lib.Ieee.{Float}
+use Rattle.point_block.specs.Damping as Damping
+use Rattle.point_block.specs.declared.DampingDiagonal.{DampingDiagonal}
+use Rattle.pixel_step.specs.Interface.{dampingDiagonal}
+use Rattle.pixel_step.proofs.Laws.{too-short, answers, two-fit}
+use borrow.Author.Needs.{needs}
+use Rattle.pixel_step.proofs.point_blocks.pixel_step_damping_diagonal.Statement.{statement}
+use Rattle.pixel_step.proofs.point_blocks.pixel_step_damping_diagonal.Tie as tie
+
+fit : (c : tie.Else1) → (length (c .before .before .before .args .matrix .now) ≡ 9) × (length (c .before .before .before .args .out .now) ≡ 3)
+fit c = two-fit (length (c .before .before .before .args .matrix .now)) (length (c .before .before .before .args .out .now)) 9 3 (c .if1 .left)
+
+-- an array in a struct has its length
+sized : (c : tie.After-answer-arg) → length (c .before .before .before .before .damping-diagonal .result .values) ≡ 3
+sized c = search needs
+
+returns : tie.Need-returns
+unfolding dampingDiagonal
+returns c = too-short _ _ _ _ _ (c .before .if1 .taken) (c .lengths .ensures)
+
+vector9-requires : tie.Need-vector9-requires
+vector9-requires c κs = fit c .0
+
+answer-requires : tie.Need-answer-requires
+answer-requires c κs = sized c ∙ sym (fit (c .before .before .before .before .before .before) .1)
+
+returns-2 : tie.Need-returns-2
+unfolding dampingDiagonal
+returns-2 c =
+    let a = c .before .before in
+    let start = a .before .before .before .before .before .before .before .before .before .before in
+    let e = a .before .before .before .before .before .damping-diagonal .ensures ∙ ap (λ (m : List Float). Damping.dampingDiagonal m) (a .before .before .before .before .before .before .vector9 .ensures) in
+    answers _ _ _ _ _ _ _ _ (a .before .before .before .before .before .before .before .if1 .left) (ap (λ (d : DampingDiagonal). d .refusal) e) (ap (λ (d : DampingDiagonal). d .values) e) (a .answer .ensures)
+
+pub pixel-step-damping-diagonal-spec : {M : Type 1} → statement M
+pixel-step-damping-diagonal-spec =
+    tie.close
+    (tie.spec
+    (λ c κs. search needs)
+    returns
+    vector9-requires
+    (λ c κs. search needs)
+    (λ c. search needs)
+    answer-requires
+    (λ c. search needs)
+    returns-2)

@@ -1,0 +1,59 @@
+-- `pixel_step::solvers::pixel_step_solve_positive_definite` meets its contract. Assumes nothing.
+use mathlib.Core.Path.{_≡_, sym, ap, _∙_}
+use mathlib.Core.List.{List}
+use lib.ListN.{length}
+use lib.Ieee.{Float}
+use Rattle.solver.specs.Solver as Solver
+use Rattle.solver.specs.declared.Solved.{Solved}
+use Rattle.pixel_step.specs.Interface.{solvePositiveDefinite}
+use Rattle.pixel_step.proofs.Laws.{too-short, answers, three-fit}
+use borrow.Author.Needs.{needs}
+use Rattle.pixel_step.proofs.solvers.pixel_step_solve_positive_definite.Statement.{
+  statement,
+}
+use Rattle.pixel_step.proofs.solvers.pixel_step_solve_positive_definite.Tie as tie
+
+fit : (c : tie.Else1) → (length (c .before .before .before .before .args .a .now) ≡ 25) × (length (c .before .before .before .before .args .b .now) ≡ 5) × (length (c .before .before .before .before .args .out .now) ≡ 5)
+fit c = three-fit (length (c .before .before .before .before .args .a .now)) (length (c .before .before .before .before .args .b .now)) (length (c .before .before .before .before .args .out .now)) 25 5 5 (c .if1 .left)
+
+-- an array in a struct has its length
+sized : (c : tie.After-answer-arg) → length (c .before .before .before .before .solve-positive-definite .result .x) ≡ 5
+sized c = search needs
+
+returns : tie.Need-returns
+unfolding solvePositiveDefinite
+returns c = too-short _ _ _ _ _ (c .before .if1 .taken) (c .lengths .ensures)
+
+vector25-requires : tie.Need-vector25-requires
+vector25-requires c κs = fit c .0
+
+vector5-requires : tie.Need-vector5-requires
+vector5-requires c κs = fit (c .before) .1
+
+answer-requires : tie.Need-answer-requires
+answer-requires c κs = sized c ∙ sym (fit (c .before .before .before .before .before .before .before) .2)
+
+returns-2 : tie.Need-returns-2
+unfolding solvePositiveDefinite
+returns-2 c =
+    let a = c .before .before in
+    let start = a .before .before .before .before .before .before .before .before .before .before .before .before in
+    let e =
+    a .before .before .before .before .before .solve-positive-definite .ensures
+    ∙ ap (λ (m : List Float). Solver.solvePositiveDefinite m (a .before .before .before .before .before .before .vector5 .result)) (a .before .before .before .before .before .before .before .vector25 .ensures)
+    ∙ ap (λ (m : List Float). Solver.solvePositiveDefinite (start .args .a .now) m) (a .before .before .before .before .before .before .vector5 .ensures) in
+    answers _ _ _ _ _ _ _ _ (a .before .before .before .before .before .before .before .before .if1 .left) (ap (λ (d : Solved). d .refusal) e) (ap (λ (d : Solved). d .x) e) (a .answer .ensures)
+
+pub pixel-step-solve-positive-definite-spec : {M : Type 1} → statement M
+pixel-step-solve-positive-definite-spec =
+    tie.close
+    (tie.spec
+    (λ c κs. search needs)
+    returns
+    vector25-requires
+    vector5-requires
+    (λ c κs. search needs)
+    (λ c. search needs)
+    answer-requires
+    (λ c. search needs)
+    returns-2)

@@ -1,0 +1,93 @@
+/*
+ * The pixel alignment step of a two-camera head: the C interface of libpixel_step.a, for x86-64.
+ * Compiles as C99 and as C++.
+ *
+ * Numbers are binary64, and vectors and matrices flat arrays, row by row. Each array passes as a pointer and
+ * then its length. An array may not overlap `out`.
+ *
+ * A call with an `out` answers 0 and writes its result there, or answers a refusal as one number and writes
+ * nothing. The refusal's parts are below: the number of the row, and the view and the index, 0 where they have
+ * no sense. An array whose length is not the one that is named beside it here is row 1. No call has any other
+ * condition: every input ends in a result or in a refusal.
+ *
+ *   row  1  a length does not fit
+ *   row  3  damping not finite or below 0
+ *   row  9  the point is not projectable
+ *   row 10  the block does not factor
+ *   row 11  the system of five equations is not solved
+ */
+#ifndef PIXEL_STEP_H
+#define PIXEL_STEP_H
+
+#include <stdbool.h>
+#include <stddef.h>
+#include <stdint.h>
+
+#ifdef __cplusplus
+extern "C" {
+#endif
+
+/* The parts of a refusal */
+#define PIXEL_STEP_NUMBER(refusal) ((uint32_t)((refusal) % 256))
+#define PIXEL_STEP_VIEW(refusal) ((uint32_t)((refusal) / 256 % 256))
+#define PIXEL_STEP_INDEX(refusal) ((uint32_t)((refusal) / 65536))
+
+/* The number helpers: each has an answer for every binary64. */
+double pixel_step_sqrt(double x);             /* IEEE 754's, correctly rounded */
+double pixel_step_abs(double x);
+bool pixel_step_is_finite(double x);
+double pixel_step_recip(double x);            /* 1 / x */
+double pixel_step_max(double x, double y);    /* a NaN is passed over; of unlike zeros +0 */
+double pixel_step_min(double x, double y);    /* a NaN is passed over; of unlike zeros -0 */
+uint64_t pixel_step_to_bits(double x);        /* of a NaN 7FF8000000000000 */
+double pixel_step_from_bits(uint64_t bits);
+
+/*
+ * The projection of a point in the camera's frame, less what was observed. Row 9.
+ * camera: fx, fy, cx, cy, skew (5); observation (2); point (3); out: residual, then the Jacobian by rows (8)
+ */
+uint64_t pixel_step_pixel_projection(const double *camera, size_t camera_length,
+                                     const double *observation, size_t observation_length,
+                                     const double *point, size_t point_length,
+                                     double *out, size_t out_length);
+
+/* What damping is multiplied with. Row 10. matrix (9); out (3) */
+uint64_t pixel_step_damping_diagonal(const double *matrix, size_t matrix_length,
+                                     double *out, size_t out_length);
+
+/* The matrix with damping added. Row 10. matrix (9); out (9) */
+uint64_t pixel_step_damped_matrix(const double *matrix, size_t matrix_length, double damping,
+                                  double *out, size_t out_length);
+
+/* The factor of a matrix that is damped already: its inverse, packed 00, 10, 11, 20, 21, 22. Row 10. matrix (9); out (6) */
+uint64_t pixel_step_factor_damped(const double *matrix, size_t matrix_length,
+                                  double *out, size_t out_length);
+
+/* The factor at a damping, which is not tested. Row 10. matrix (9); out (6) */
+uint64_t pixel_step_factor(const double *matrix, size_t matrix_length, double damping,
+                           double *out, size_t out_length);
+
+/* The factor at a damping with its reciprocal condition number. Rows 3, 10. matrix (9); out: inverse, rcond (7) */
+uint64_t pixel_step_factor_new(const double *matrix, size_t matrix_length, double damping,
+                               double *out, size_t out_length);
+
+/* The packed inverse times a vector. inverse (6); x (3); out (3) */
+uint64_t pixel_step_factor_solve(const double *inverse, size_t inverse_length,
+                                 const double *x, size_t x_length,
+                                 double *out, size_t out_length);
+
+/* The reciprocal condition number of a matrix by its packed inverse. inverse (6); matrix (9); out (1) */
+uint64_t pixel_step_reciprocal_condition_number(const double *inverse, size_t inverse_length,
+                                                const double *matrix, size_t matrix_length,
+                                                double *out, size_t out_length);
+
+/* The solution of a x = b by Cholesky's method. Row 11. a (25); b (5); out (5) */
+uint64_t pixel_step_solve_positive_definite(const double *a, size_t a_length,
+                                            const double *b, size_t b_length,
+                                            double *out, size_t out_length);
+
+#ifdef __cplusplus
+}
+#endif
+
+#endif
