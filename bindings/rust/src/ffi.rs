@@ -1,0 +1,90 @@
+//! The C interface, as the static library has it. A slice is a pointer, then a
+//! length; the answer is 0 or a refusal's code.
+
+#[link(name = "pixel_step", kind = "static")]
+unsafe extern "C" {
+    pub safe fn pixel_step_sqrt(x: f64) -> f64;
+    pub safe fn pixel_step_abs(x: f64) -> f64;
+    pub safe fn pixel_step_recip(x: f64) -> f64;
+    pub safe fn pixel_step_max(x: f64, y: f64) -> f64;
+    pub safe fn pixel_step_min(x: f64, y: f64) -> f64;
+    pub safe fn pixel_step_is_finite(x: f64) -> bool;
+    pub safe fn pixel_step_to_bits(x: f64) -> u64;
+    pub safe fn pixel_step_from_bits(bits: u64) -> f64;
+
+    pub fn pixel_step_pixel_projection(
+        camera: *const f64,
+        camera_len: usize,
+        observation: *const f64,
+        observation_len: usize,
+        point: *const f64,
+        point_len: usize,
+        out: *mut f64,
+        out_len: usize,
+    ) -> u64;
+
+    pub fn pixel_step_damping_diagonal(
+        matrix: *const f64,
+        matrix_len: usize,
+        out: *mut f64,
+        out_len: usize,
+    ) -> u64;
+
+    pub fn pixel_step_damped_matrix(
+        matrix: *const f64,
+        matrix_len: usize,
+        damping: f64,
+        out: *mut f64,
+        out_len: usize,
+    ) -> u64;
+
+    pub fn pixel_step_factor_damped(
+        matrix: *const f64,
+        matrix_len: usize,
+        out: *mut f64,
+        out_len: usize,
+    ) -> u64;
+
+    pub fn pixel_step_factor(
+        matrix: *const f64,
+        matrix_len: usize,
+        damping: f64,
+        out: *mut f64,
+        out_len: usize,
+    ) -> u64;
+
+    pub fn pixel_step_factor_new(
+        matrix: *const f64,
+        matrix_len: usize,
+        damping: f64,
+        out: *mut f64,
+        out_len: usize,
+    ) -> u64;
+
+    pub fn pixel_step_factor_solve(
+        inverse: *const f64,
+        inverse_len: usize,
+        rhs: *const f64,
+        rhs_len: usize,
+        out: *mut f64,
+        out_len: usize,
+    ) -> u64;
+
+    pub fn pixel_step_reciprocal_condition_number(
+        inverse: *const f64,
+        inverse_len: usize,
+        matrix: *const f64,
+        matrix_len: usize,
+        out: *mut f64,
+        out_len: usize,
+    ) -> u64;
+
+    pub fn pixel_step_solve_positive_definite(
+        a: *const f64,
+        a_len: usize,
+        b: *const f64,
+        b_len: usize,
+        out: *mut f64,
+        out_len: usize,
+    ) -> u64;
+}
