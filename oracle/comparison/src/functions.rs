@@ -1,0 +1,103 @@
+//! The functions that are compared. A new one is a file here and its name below.
+
+use crate::function::Function;
+
+macro_rules! functions {
+    ($($name:ident)*) => {
+        $(mod $name;)*
+        pub const ALL: &[&Function] = &[$(&$name::FUNCTION),*];
+    };
+}
+
+functions! {
+    sqrt
+    abs
+    recip
+    max
+    min
+    is_finite
+    to_bits
+    from_bits
+    pixel_projection
+    damping_diagonal
+    damped_matrix
+    factor_damped
+    factor
+    factor_new
+    factor_solve
+    reciprocal_condition_number
+    solve_positive_definite
+}
+
+#[cfg(test)]
+mod tests {
+    use super::*;
+    use crate::lengths;
+    use crate::tally::Tally;
+
+    const CASES: u64 = 4000;
+
+    /// The oracle's answers to the seeded cases.
+    fn tally(function: &Function) -> Tally {
+        let mut tally = Tally::default();
+        for case in function.walked()..function.count(CASES) {
+            let input = function.input(3, case);
+            let answer = (function.oracle)(&input);
+            tally.count(&answer);
+            tally.ruled += u64::from(function.is_ruled(&input, &answer));
+        }
+        tally
+    }
+
+    /// Results and each row have at least a tenth of the cases, and the rule
+    /// for zeros a fiftieth where it can be seen.
+    #[test]
+    fn each_answer_has_its_share() {
+        for function in ALL {
+            let tally = tally(function);
+            let name = function.name;
+            assert!(tally.results >= CASES / 10, "{name}: {tally}");
+            for row in function.rows {
+                let count = tally.refused.get(row).copied().unwrap_or(0);
+                assert!(count >= CASES / 10, "{name}: {tally}");
+            }
+            assert_eq!(tally.refused.len(), function.rows.len(), "{name}: {tally}");
+            let least = if function.plain.is_some() {
+                CASES / 50
+            } else {
+                0
+            };
+            assert!(tally.ruled >= least, "{name}: {tally}");
+        }
+    }
+
+    /// Seed, name and case decide an input.
+    #[test]
+    fn inputs_come_from_the_seed() {
+        for function in ALL {
+            let inputs = |seed| {
+                let cases = function.walked()..function.count(50);
+                cases
+                    .map(|case| function.input(seed, case))
+                    .collect::<Vec<_>>()
+            };
+            assert_eq!(inputs(5), inputs(5));
+            assert_ne!(inputs(5), inputs(6));
+        }
+        assert_ne!(ALL[3].input(5, 0), ALL[4].input(5, 0));
+    }
+
+    /// No length of a wrong input is that of the right one throughout.
+    #[test]
+    fn wrong_lengths_are_wrong() {
+        for function in ALL {
+            let right = function.input(7, function.walked());
+            let sizes = |input: &crate::input::Input| -> Vec<usize> {
+                input.0.iter().map(Vec::len).collect()
+            };
+            for wrong in lengths::wrong(function, &right) {
+                assert_ne!(sizes(&wrong), sizes(&right));
+            }
+        }
+    }
+}
