@@ -4,7 +4,9 @@ pub mod Specials
 pub mod Differences
 pub mod Picks
 pub mod Order
+pub mod Monotone
 pub mod Finite
+pub mod Fill
 pub mod Whole
 pub mod Patterns
 pub mod Rounded

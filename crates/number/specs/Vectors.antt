@@ -3,7 +3,7 @@ use Prim.Native.Nat.{ℕ, zero as zero·, suc}
 use mathlib.Core.Bool.{Bool, true, _&&_}
 use mathlib.Core.List.{List, [], _∷_}
 use lib.ListN.{getD}
-use lib.Ieee.{Float, nan}
+use lib.Ieee.{Float, nan, eq}
 use Rattle.number.specs.Binary64.{_⊕_, zero, negZero}
 use Rattle.number.specs.Parts.{isFinite}
 use Rattle.number.specs.Extrema.{max, larger}
@@ -39,6 +39,11 @@ largerFrom low (x ∷ xs) = largerFrom (larger low x) xs
 unfoldable pub allFinite : List Float → Bool
 allFinite [] = true
 allFinite (x ∷ xs) = isFinite x && allFinite xs
+
+-- every entry is a zero, of either sign
+unfoldable pub allZero : List Float → Bool
+allZero [] = true
+allZero (x ∷ xs) = eq x zero && allZero xs
 
 -- the list of f 0, f 1, .. of n entries
 abbrev pub tabulate : ℕ → (ℕ → Float) → List Float

@@ -52,12 +52,15 @@ module _ (rotation translation point : List Float) where
 
   module _ (h : T (inFront moved)) where
     row₀ : FiniteRow (rotation ! 0) (rotation ! 1) (rotation ! 2) (translation ! 0)
+    unfolding rotate cameraPoint
     row₀ = finite-row _ _ _ _ (point ! 0) (point ! 1) (point ! 2) (front-finite moved h .0)
 
     row₁ : FiniteRow (rotation ! 3) (rotation ! 4) (rotation ! 5) (translation ! 1)
+    unfolding rotate cameraPoint
     row₁ = finite-row _ _ _ _ (point ! 0) (point ! 1) (point ! 2) (front-finite moved h .1)
 
     row₂ : FiniteRow (rotation ! 6) (rotation ! 7) (rotation ! 8) (translation ! 2)
+    unfolding rotate cameraPoint
     row₂ = finite-row _ _ _ _ (point ! 0) (point ! 1) (point ! 2) (front-finite moved h .2)
 
     rotation-finite : (i : ℕ) → i < 9 → T (isFinite (rotation ! i))

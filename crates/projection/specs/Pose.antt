@@ -11,14 +11,14 @@ use Rattle.projection.specs.declared.PinholeCamera.{PinholeCamera}
 use Rattle.projection.specs.Projection.{notProjectable, pixelProjection}
 
 -- `rotate` of schur.rs; the rotation is given by rows
-abbrev pub rotate : List Float → List Float → List Float
+unfoldable pub rotate : List Float → List Float → List Float
 rotate rotation point =
     rotation ! 0 ⊗ point ! 0 ⊕ rotation ! 1 ⊗ point ! 1 ⊕ rotation ! 2 ⊗ point ! 2
     ∷ rotation ! 3 ⊗ point ! 0 ⊕ rotation ! 4 ⊗ point ! 1 ⊕ rotation ! 5 ⊗ point ! 2
     ∷ rotation ! 6 ⊗ point ! 0 ⊕ rotation ! 7 ⊗ point ! 1 ⊕ rotation ! 8 ⊗ point ! 2
     ∷ []
 
-abbrev pub cameraPoint : List Float → List Float → List Float
+unfoldable pub cameraPoint : List Float → List Float → List Float
 cameraPoint rotated translation = rotated ! 0 ⊕ translation ! 0 ∷ rotated ! 1 ⊕ translation ! 1 ∷ rotated ! 2 ⊕ translation ! 2 ∷ []
 
 -- "A non-finite rotation or translation makes view 2 not projectable" (document 01, "Modules in port order"): whatever the camera, the observation and the point.
