@@ -1,0 +1,117 @@
+// The reader: a line of stored answers as numbers.
+ghost use Prim.Native.Nat.{_+_, _<_, _≤_};
+ghost use lib.ListN.{length};
+
+// So many words a line may have, `=` and `refused` among them.
+pub const WORDS: usize = 160;
+
+// A line by its words: the inputs, `=` at `split`, then the outputs, or `refused` and three numbers.
+// What stands for `=` and `refused` themselves has no sense.
+pub struct Case {
+    pub words: [u64; WORDS],
+    pub count: usize,
+    pub split: usize,
+    pub refused: bool,
+    // Whether each byte has a place in such a line
+    pub formed: bool,
+    // Where the next line begins
+    pub next: usize,
+}
+
+// Where the reader is: at a word, with what it has seen before
+struct Place {
+    word: usize,
+    split: usize,
+    refused: bool,
+    formed: bool,
+}
+
+impl Case {
+    // The line that begins at `start`
+    pub fn read(text: &[u8], start: usize) -> Self
+        requires { ⌜ start ≤ length (now text) ⌝ }
+        ensures { λ r. ⌜ start < r .next ⌝ }
+    {
+        let mut words = [0u64; WORDS];
+        let mut place = Place {
+            word: 0,
+            split: 0,
+            refused: false,
+            formed: true,
+        };
+        let mut at = start;
+        while at < text.len() {
+            let byte = text[at];
+            if byte == b'\n' {
+                break;
+            }
+            let word = place.word % WORDS;
+            words[word] = place.joined(words[word], byte);
+            place = place.after(byte);
+            at += 1;
+        }
+        Self {
+            words,
+            count: std::num::wrapping_add_usize(place.word, 1),
+            split: place.split,
+            refused: place.refused,
+            formed: place.formed,
+            next: at + 1,
+        }
+    }
+
+    // The number of the word at i
+    pub fn number(self, i: usize) -> f64
+        requires { ⌜ i < 160 ⌝ }
+    {
+        let words = self.words;
+        number::from_bits(words[i])
+    }
+
+    // The numbers of the words from `start` on
+    pub fn fill(self, start: usize, values: &mut [f64])
+        requires { ⌜ start + length (now values) ≤ 160 ⌝ }
+    {
+        for i in 0..values.len() {
+            values[i] = self.number(start + i);
+        }
+    }
+}
+
+impl Place {
+    fn after(mut self, byte: u8) -> Self {
+        match byte {
+            b' ' => self.word = std::num::wrapping_add_usize(self.word, 1),
+            b'=' => self.split = self.word,
+            b'r' => self.refused = true,
+            b'0'..=b'9' | b'A'..=b'F' => {}
+            b'a'..=b'z' => self.formed = self.formed & self.refused,
+            _ => self.formed = false,
+        }
+        self
+    }
+
+    // The word's value with one digit more: decimal past `refused`, and hexadecimal before
+    fn joined(self, value: u64, byte: u8) -> u64 {
+        if byte == b' ' {
+            return value;
+        }
+        let high = value % 0x1000_0000_0000_0000;
+        if self.refused {
+            high * 10 + digit(byte)
+        } else {
+            high * 16 + digit(byte)
+        }
+    }
+}
+
+// The value of a capital hexadecimal digit, and 0 of any other byte
+fn digit(byte: u8) -> u64
+    ensures { λ r. ⌜ r < 16 ⌝ }
+{
+    match byte {
+        b'0'..=b'9' => (byte - b'0') as u64,
+        b'A'..=b'F' => (byte - b'A' + 10) as u64,
+        _ => 0,
+    }
+}

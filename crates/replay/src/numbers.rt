@@ -1,0 +1,52 @@
+// The calls of `number`.
+use crate::calls::Call;
+use crate::cases::Case;
+use crate::files;
+use crate::files::ROOM;
+use crate::outcomes::Outcome;
+use refusal::Refusal;
+
+pub fn replay(text: &mut [u8; ROOM]) {
+    files::replay(text, b"sqrt.txt", 1, Call::Sqrt);
+    files::replay(text, b"abs.txt", 1, Call::Abs);
+    files::replay(text, b"recip.txt", 1, Call::Recip);
+    files::replay(text, b"is_finite.txt", 1, Call::IsFinite);
+    files::replay(text, b"max.txt", 2, Call::Max);
+    files::replay(text, b"min.txt", 2, Call::Min);
+    files::replay(text, b"to_bits.txt", 1, Call::ToBits);
+    files::replay(text, b"from_bits.txt", 1, Call::FromBits);
+}
+
+pub fn sqrt(case: Case) -> Outcome {
+    Outcome::one(case, number::sqrt(case.number(0)))
+}
+
+pub fn abs(case: Case) -> Outcome {
+    Outcome::one(case, number::abs(case.number(0)))
+}
+
+pub fn recip(case: Case) -> Outcome {
+    Outcome::one(case, number::recip(case.number(0)))
+}
+
+pub fn is_finite(case: Case) -> Outcome {
+    let finite = number::is_finite(case.number(0));
+    Outcome::of(case, Refusal::none()).with_word(finite as u64)
+}
+
+pub fn max(case: Case) -> Outcome {
+    Outcome::one(case, number::max(case.number(0), case.number(1)))
+}
+
+pub fn min(case: Case) -> Outcome {
+    Outcome::one(case, number::min(case.number(0), case.number(1)))
+}
+
+pub fn to_bits(case: Case) -> Outcome {
+    Outcome::of(case, Refusal::none()).with_word(number::to_bits(case.number(0)))
+}
+
+pub fn from_bits(case: Case) -> Outcome {
+    let words = case.words;
+    Outcome::one(case, number::from_bits(words[0]))
+}
