@@ -1,0 +1,4 @@
+-- Laws of the blocks.
+pub mod Laws
+pub mod Costs
+pub mod Claim

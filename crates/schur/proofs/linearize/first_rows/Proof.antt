@@ -1,0 +1,17 @@
+-- `schur::linearize::first_rows` meets its contract. Assumes nothing.
+use mathlib.Core.Path.{refl}
+use Rattle.schur.specs.Linearize.{firstRows}
+use borrow.Author.Needs.{needs}
+use Rattle.schur.proofs.linearize.first_rows.Statement.{statement}
+use Rattle.schur.proofs.linearize.first_rows.Tie as tie
+
+returns : tie.Need-returns
+unfolding firstRows
+returns c = rw (c .first-view .ensures) refl
+
+pub first-rows-spec : {M : Type 1} → statement M
+first-rows-spec =
+    tie.close
+    (tie.spec
+    (λ c κs. search needs)
+    returns)

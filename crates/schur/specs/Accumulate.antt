@@ -1,0 +1,28 @@
+-- `LocalLinearization::accumulate` of schur.rs: each entry is a sum of four products of the weighted rows, from +0, view 1 before view 2 and the first residual before the second.
+use Prim.Native.Nat.{ℕ, _+_, _/_, _%_}
+use mathlib.Core.List.{List}
+use lib.Ieee.{Float}
+use Rattle.number.specs.Binary64.{_⊕_, _⊗_, zero}
+use Rattle.number.specs.Vectors.{_!_, tabulate}
+
+-- The products of entry i of rows of n and of entry k of rows of m: x and y are view 1's two rows, z and w view 2's.
+abbrev pub products : ℕ → ℕ → List Float → List Float → List Float → List Float → ℕ → ℕ → Float
+products n m x y z w i k = zero ⊕ x ! i ⊗ y ! k ⊕ x ! (n + i) ⊗ y ! (m + k) ⊕ z ! i ⊗ w ! k ⊕ z ! (n + i) ⊗ w ! (m + k)
+
+-- from the pose's rows of the two views
+unfoldable pub poseHessian : List Float → List Float → List Float
+poseHessian a b = tabulate 25 (λ k. products 5 5 a a b b (k / 5) (k % 5))
+
+-- from the pose's and the point's rows of view 1, then of view 2
+unfoldable pub crossHessian : List Float → List Float → List Float → List Float → List Float
+crossHessian a p b q = tabulate 15 (λ k. products 5 3 a p b q (k / 3) (k % 3))
+
+unfoldable pub pointHessian : List Float → List Float → List Float
+pointHessian p q = tabulate 9 (λ k. products 3 3 p p q q (k / 3) (k % 3))
+
+-- from the rows and the residuals of view 1, then of view 2
+abbrev pub poseGradient : List Float → List Float → List Float → List Float → List Float
+poseGradient a r b s = tabulate 5 (λ i. products 5 1 a r b s i 0)
+
+abbrev pub pointGradient : List Float → List Float → List Float → List Float → List Float
+pointGradient p r q s = tabulate 3 (λ i. products 3 1 p r q s i 0)

@@ -1,0 +1,115 @@
+-- Calls of `add`, one after the other, and the tally of them: document 01, "A list of adds".
+use Prim.Native.Nat.{ℕ, suc}
+use mathlib.Core.Path.{_≡_}
+use mathlib.Core.Bool.{Bool, true, false, not, _&&_, _||_, cond}
+use mathlib.Core.List.{List, [], _∷_}
+use lib.Dec.{ltb}
+use lib.Ieee.{Float, le}
+use Rattle.number.specs.Binary64.{epsilon192}
+use Rattle.refusal.specs.Rows as Rows
+use Rattle.refusal.specs.Refused.{of, none, isNone}
+use Rattle.refusal.specs.declared.Refusal.{Refusal}
+use Rattle.projection.specs.declared.PinholeCamera.{PinholeCamera}
+use Rattle.point_block.specs.Lone.{goodDamping, loneFactor}
+use Rattle.schur.specs.declared.linearize.LocalLinearization.{LocalLinearization}
+use Rattle.schur.specs.declared.linearize.Pose.{Pose}
+use Rattle.schur.specs.declared.linearize.Dot.{Dot}
+use Rattle.schur.specs.declared.system.ReducedSystem.{ReducedSystem}
+use Rattle.schur.specs.declared.system.Added.{Added}
+use Rattle.schur.specs.Linearize.{linearizePoint}
+use Rattle.schur.specs.System.{maxBlocks, isZero, raised, add}
+
+-- what a block is made from
+pub record Inputs : Type 0 where
+  pub camera1 : PinholeCamera
+  pub camera2 : PinholeCamera
+  pub pose : Pose
+  pub dot : Dot
+
+-- what the block maker returns, a refused point's +0 everywhere too
+abbrev pub made : Inputs → LocalLinearization
+made i = linearizePoint (i .camera1) (i .camera2) (i .pose) (i .dot)
+
+-- A call brings a block that the block maker returned, from any inputs, and the list's damping or one that row 3 refuses.
+pub data Call : Type 0 where
+  atDamping : Inputs → Call
+  atRefused : Inputs → (damping : Float) → goodDamping damping ≡ false → Call
+
+-- ---- `add`, run call by call
+
+abbrev pub added : Float → ReducedSystem → Call → Added
+added d s (atDamping i) = add s (made i) d
+added d s (atRefused i x h) = add s (made i) x
+
+-- what each call hands back
+abbrev pub results : Float → ReducedSystem → List Call → List Added
+results d s [] = []
+results d s (c ∷ cs) = added d s c ∷ results d (added d s c .system) cs
+
+-- the system after all of them
+abbrev pub after : Float → ReducedSystem → List Call → ReducedSystem
+after d s [] = s
+after d s (c ∷ cs) = after d (added d s c .system) cs
+
+-- blocks alone, all at the list's damping
+abbrev pub afterBlocks : Float → ReducedSystem → List LocalLinearization → ReducedSystem
+afterBlocks d s [] = s
+afterBlocks d s (b ∷ bs) = afterBlocks d (add s b d .system) bs
+
+-- ---- the tally, fed only the blocks and the dampings
+
+pub record Tally : Type 0 where
+  pub flag : Bool
+  pub blocks : ℕ
+  pub weak : ℕ
+
+abbrev pub start : Tally
+start = record { flag = true; blocks = 0; weak = 0 }
+
+-- "A block factors if the lone factor gives one for it at the list's damping, and its rcond is the one given there; otherwise it is a refused block."
+unfoldable pub factors : Float → LocalLinearization → Bool
+factors d b = isNone (loneFactor (b .«point_hessian») d .refusal)
+
+unfoldable pub smallRcond : Float → LocalLinearization → Bool
+smallRcond d b = le (loneFactor (b .«point_hessian») d .rcond) epsilon192
+
+abbrev pub room : ℕ → Bool
+room blocks = ltb blocks maxBlocks
+
+abbrev pub takenIn : Float → Tally → LocalLinearization → Tally
+takenIn d t b = record {
+  flag = t .flag && factors d b;
+  blocks = suc (t .blocks);
+  weak = raised (isZero d && (not (factors d b) || smallRcond d b)) (t .weak);
+}
+
+abbrev pub counted : Float → Tally → Call → Tally
+counted d t (atDamping i) = cond (room (t .blocks)) (takenIn d t (made i)) t
+counted d t (atRefused i x h) = t
+
+abbrev pub tally : Float → Tally → List Call → Tally
+tally d t [] = t
+tally d t (c ∷ cs) = tally d (counted d t c) cs
+
+abbrev pub refusalOf : Tally → Call → Refusal
+refusalOf t (atDamping i) = cond (room (t .blocks)) none (of Rows.full)
+refusalOf t (atRefused i x h) = of Rows.damping
+
+abbrev pub refusals : Float → Tally → List Call → List Refusal
+refusals d t [] = []
+refusals d t (c ∷ cs) = refusalOf t c ∷ refusals d (counted d t c) cs
+
+-- ---- the blocks taken in, from a block count on: those at the list's damping, while there is room
+
+abbrev pub blocksIn : ℕ → List Call → List LocalLinearization
+blocksIn n [] = []
+blocksIn n (atDamping i ∷ cs) = cond (room n) (made i ∷ blocksIn (suc n) cs) (blocksIn n cs)
+blocksIn n (atRefused i x h ∷ cs) = blocksIn n cs
+
+abbrev pub every : (LocalLinearization → Bool) → List LocalLinearization → Bool
+every p [] = true
+every p (b ∷ bs) = p b && every p bs
+
+abbrev pub those : (LocalLinearization → Bool) → List LocalLinearization → List LocalLinearization
+those p [] = []
+those p (b ∷ bs) = cond (p b) (b ∷ those p bs) (those p bs)

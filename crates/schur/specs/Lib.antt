@@ -1,0 +1,7 @@
+-- Module 5 of document 01: schur.rs.
+pub mod Views
+pub mod Accumulate
+pub mod Linearize
+pub mod System
+pub mod Calls
+pub mod Claim
