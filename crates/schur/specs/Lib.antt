@@ -3,5 +3,7 @@ pub mod Views
 pub mod Accumulate
 pub mod Linearize
 pub mod System
+pub mod Model
+pub mod PointStep
 pub mod Calls
 pub mod Claim

@@ -45,13 +45,20 @@ newSystem = record {
 abbrev pub isZero : Float → Bool
 isZero damping = eq damping zero
 
--- `scaled_gradient_inf_norm` over n entries: 0 for an all-zero gradient and else +∞ where the largest diagonal entry is not positive and finite
+-- a gradient's entry by the root of its curvature
+abbrev pub scaled : Float → Float → Float → Float
+scaled value curvature floor = abs value ⊘ sqrt (max curvature floor)
+
+-- 0 for an all-zero gradient, else +∞
+unfoldable pub unscaled : Bool → Float
+unscaled allZero = cond allZero zero (inf false)
+
+-- `scaled_gradient_inf_norm` over n entries: without a scale where the largest diagonal entry is not positive and finite
 unfoldable pub scaledGradientInfNorm : ℕ → List Float → List Float → Float
 scaledGradientInfNorm n gradient diagonal =
     let scale = largest (tabulate n (λ i. diagonal ! i)) in
-    cond (positiveFinite scale)
-    (largest (tabulate n (λ i. abs (gradient ! i) ⊘ sqrt (max (diagonal ! i) (epsilon64 ⊗ scale)))))
-    (cond (allZero (tabulate n (λ i. gradient ! i))) zero (inf false))
+    cond (positiveFinite scale) (largest (tabulate n (λ i. scaled (gradient ! i) (diagonal ! i) (epsilon64 ⊗ scale))))
+    (unscaled (allZero (tabulate n (λ i. gradient ! i))))
 
 -- the same of a block's point gradient, scaled by the diagonal of its point Hessian
 unfoldable pub pointGradientNorm : LocalLinearization → Float
@@ -68,11 +75,17 @@ crossRow cross row = cross ! (3 * row) ∷ cross ! (3 * row + 1) ∷ cross ! (3 
 unfoldable pub inverseGradient : List Float → LocalLinearization → List Float
 inverseGradient inverse b = solve inverse (b .«point_gradient»)
 
--- what a block that factors leaves of itself once the point is eliminated
+-- the inverse times each row of the cross Hessian
+unfoldable pub inverseCross : List Float → List Float → List Float
+inverseCross inverse cross = tabulate 15 (λ k. solve inverse (crossRow cross (k / 3)) ! (k % 3))
+
+-- what is left of the pose's entry at row i and column j once the point is eliminated
+abbrev pub leftOf : Float → List Float → List Float → ℕ → ℕ → Float
+leftOf pose cross inverse i j = pose ⊖ dot3 (crossRow cross i) (crossRow inverse j)
+
 unfoldable pub reducedHessian : List Float → List Float → LocalLinearization → List Float
 reducedHessian h inverse b =
-    tabulate 25
-    (λ k. h ! k ⊕ (b .«pose_hessian» ! k ⊖ dot3 (crossRow (b .«cross_hessian») (k / 5)) (solve inverse (crossRow (b .«cross_hessian») (k % 5)))))
+    tabulate 25 (λ k. h ! k ⊕ leftOf (b .«pose_hessian» ! k) (b .«cross_hessian») (inverseCross inverse (b .«cross_hessian»)) (k / 5) (k % 5))
 
 unfoldable pub reducedGradient : List Float → List Float → LocalLinearization → List Float
 reducedGradient g inverse b =

@@ -3,7 +3,11 @@
 
 // The blocks of the two-view problem: kernel/two_view/schur.rs.
 mod accumulate;
+mod eliminate;
+mod gradient_norm;
 mod linearize;
+mod model;
+mod point_step;
 mod system;
 mod views;
 
@@ -11,5 +15,8 @@ pub use linearize::Dot;
 pub use linearize::LocalLinearization;
 pub use linearize::Pose;
 pub use linearize::linearize_point;
+pub use point_step::PointStep;
+pub use point_step::point_step_with_damping_norm;
 pub use system::Added;
+pub use system::Predicted;
 pub use system::ReducedSystem;

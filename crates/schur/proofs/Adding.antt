@@ -1,0 +1,117 @@
+-- The answers of `add` and what it calls, by the tests that lead to each. Assumes nothing.
+use mathlib.Core.Path.{_≡_, refl, ap₂, _∙_}
+use mathlib.Core.Bool.{Bool, true, false, not, cond}
+use mathlib.Core.List.{List}
+use Prim.Native.Nat.{ℕ, _+_, _*_, _<_, _≤_}
+use native.Mathlib.Numerals.{add-one}
+use borrow.Author.Tests.{not-true, not-false}
+use lib.Dec.{leb, ltb, leb→le, ltb→lt}
+use lib.Ieee.{Float, eq, le}
+use Rattle.number.specs.Binary64.{_⊕_, zero, epsilon192}
+use Rattle.number.specs.Extrema.{max, min}
+use Rattle.number.specs.Vectors.{_!_, tabulate}
+use Rattle.refusal.specs.Rows as Rows
+use Rattle.refusal.specs.Refused.{of, none, isNone}
+use Rattle.refusal.specs.declared.Refusal.{Refusal}
+use Rattle.point_block.specs.Condition.{reciprocalConditionNumber}
+use Rattle.point_block.specs.Lone.{factor, goodDamping}
+use Rattle.point_block.specs.declared.PointBlockFactor.{PointBlockFactor}
+use Rattle.schur.specs.declared.linearize.LocalLinearization.{LocalLinearization}
+use Rattle.schur.specs.declared.system.ReducedSystem.{ReducedSystem}
+use Rattle.schur.specs.Model.{dampedHessian, withHessian, finishDamping, reductionOf, predictedReduction}
+use Rattle.schur.specs.System.{maxBlocks, raised, pointGradientNorm, reducedHessian, reducedGradient, pointReduction, takenWith, takenRefused, takenFactored, taken, add}
+
+pub below : (m n : ℕ) → not (ltb m n) ≡ false → m < n
+below m n h = ltb→lt m n (rw (not-false (ltb m n) h) tt)
+
+pub at-most : (m n : ℕ) → not (leb m n) ≡ false → m ≤ n
+at-most m n h = leb→le m n (rw (not-false (leb m n) h) tt)
+
+-- what every block brings
+pub takes-with : (s : ReducedSystem) (b : LocalLinearization) (h g : List Float) (x : Float) (w : ℕ) (r : Float) (v : Bool) (k m : Float) → k ≡ pointGradientNorm b
+    → m ≡ max (s .«scaled_point_gradient_inf_norm») k → record {
+      hessian = h;
+      gradient = g;
+      cost = s .cost ⊕ b .cost;
+      «squared_residual» = s .«squared_residual» ⊕ b .«squared_residual»;
+      «full_pose_gradient» = tabulate 5 (λ i. s .«full_pose_gradient» ! i ⊕ b .«pose_gradient» ! i);
+      «pose_diagonal» = tabulate 5 (λ i. s .«pose_diagonal» ! i ⊕ b .«pose_hessian» ! (6 * i));
+      «point_model_reduction» = x;
+      «scaled_point_gradient_inf_norm» = m;
+      «weak_point_count» = w;
+      «minimum_point_rcond» = r;
+      valid = v;
+      «block_count» = s .«block_count» + 1;
+    } ≡ takenWith s b h g x w r v
+unfolding takenWith
+takes-with s b h g x w r v k m ek em = rw (em, ek, add-one (s .«block_count»)) refl
+
+module _ (s : ReducedSystem) (b : LocalLinearization) (damping : Float) where
+  module _ (i h g : List Float) (x : Float) (eh : h ≡ reducedHessian (s .hessian) i b) (eg : g ≡ reducedGradient (s .gradient) i b)
+      (ex : x ≡ pointReduction (s .«point_model_reduction») i b) where
+    pub factored-at-zero : (r : ReducedSystem) (c : ℕ) (k m : Float) → eq damping zero ≡ true → k ≡ reciprocalConditionNumber i (b .«point_hessian»)
+        → c ≡ raised (le k epsilon192) (s .«weak_point_count») → m ≡ min (s .«minimum_point_rcond») k → r ≡ takenWith s b h g x c m (s .valid) → r ≡ takenFactored s b damping i
+    unfolding takenFactored
+    factored-at-zero r c k m z ek ec em q = rw (← eh, ← eg, ← ex, z, ← ek) (q ∙ ap₂ (λ (c : ℕ) (m : Float). takenWith s b h g x c m (s .valid)) ec em)
+
+    pub factored-elsewhere : (r : ReducedSystem) → eq damping zero ≡ false → r ≡ takenWith s b h g x (s .«weak_point_count») (s .«minimum_point_rcond») (s .valid)
+        → r ≡ takenFactored s b damping i
+    unfolding takenFactored
+    factored-elsewhere r z q = rw (← eh, ← eg, ← ex, z) q
+
+  pub refused-is : (r : ReducedSystem) (c : ℕ) (m : Float) → c ≡ raised (eq damping zero) (s .«weak_point_count») → m ≡ cond (eq damping zero) zero (s .«minimum_point_rcond»)
+      → r ≡ takenWith s b (s .hessian) (s .gradient) (s .«point_model_reduction») c m false → r ≡ takenRefused s b damping
+  unfolding takenRefused
+  refused-is r c m ec em q = q ∙ ap₂ (λ (c : ℕ) (m : Float). takenWith s b (s .hessian) (s .gradient) (s .«point_model_reduction») c m false) ec em
+
+  module _ (f : PointBlockFactor) (n : Bool) (e : f ≡ factor (b .«point_hessian») damping) (t : n ≡ isNone (f .refusal)) where
+    pub takes-factored : (r : ReducedSystem) → n ≡ true → r ≡ takenFactored s b damping (f .inverse) → r ≡ taken s b damping
+    unfolding taken
+    takes-factored r p q = rw (← e, ← t, p) q
+
+    pub takes-refused : (r : ReducedSystem) → n ≡ false → r ≡ takenRefused s b damping → r ≡ taken s b damping
+    unfolding taken
+    takes-refused r p q = rw (← e, ← t, p) q
+
+  module _ (g : Bool) (t : g ≡ goodDamping damping) (r : Refusal) where
+    pub adds-no-damping : not g ≡ true → r ≡ of Rows.damping → record { system = s; refusal = r } ≡ add s b damping
+    unfolding add
+    adds-no-damping p q = rw (← t, not-true g p, q) refl
+
+    module _ (p : not g ≡ false) where
+      pub adds-no-weak : not (leb (s .«weak_point_count») (s .«block_count»)) ≡ true → r ≡ of Rows.weakCount → record { system = s; refusal = r } ≡ add s b damping
+      unfolding add
+      adds-no-weak w q = rw (← t, not-false g p, not-true (leb (s .«weak_point_count») (s .«block_count»)) w, q) refl
+
+      module _ (w : not (leb (s .«weak_point_count») (s .«block_count»)) ≡ false) where
+        pub adds-no-more : not (ltb (s .«block_count») maxBlocks) ≡ true → r ≡ of Rows.full → record { system = s; refusal = r } ≡ add s b damping
+        unfolding add
+        adds-no-more n q =
+            rw (← t, not-false g p, not-false (leb (s .«weak_point_count») (s .«block_count»)) w, not-true (ltb (s .«block_count») maxBlocks) n, q) refl
+
+        pub adds-block : (x : ReducedSystem) → not (ltb (s .«block_count») maxBlocks) ≡ false → x ≡ taken s b damping → r ≡ none
+            → record { system = x; refusal = r } ≡ add s b damping
+        unfolding add
+        adds-block x n e q =
+            rw (← t, not-false g p, not-false (leb (s .«weak_point_count») (s .«block_count»)) w, not-false (ltb (s .«block_count») maxBlocks) n, e, q) refl
+
+-- ---- a finished system
+
+module _ (s : ReducedSystem) (damping : Float) (g : Bool) (t : g ≡ goodDamping damping) (r : Refusal) where
+  pub finishes-not : not g ≡ true → r ≡ of Rows.damping → record { system = s; refusal = r } ≡ finishDamping s damping
+  unfolding finishDamping
+  finishes-not p q = rw (← t, not-true g p, q) refl
+
+  pub finishes : (h : List Float) (x : ReducedSystem) → not g ≡ false → h ≡ dampedHessian (s .hessian) (s .«pose_diagonal») damping → x ≡ withHessian s h → r ≡ none
+      → record { system = x; refusal = r } ≡ finishDamping s damping
+  unfolding finishDamping
+  finishes h x p eh ex q = rw (← t, not-false g p, ← eh, ex, q) refl
+
+module _ (s : ReducedSystem) (step : List Float) (damping n : Float) (g : Bool) (t : g ≡ goodDamping damping) (r : Refusal) where
+  pub predicts-not : not g ≡ true → r ≡ of Rows.damping → record { reduction = zero; refusal = r } ≡ predictedReduction s step damping n
+  unfolding predictedReduction
+  predicts-not p q = rw (← t, not-true g p, q) refl
+
+  pub predicts : not g ≡ false → (x : Float) → x ≡ reductionOf s step damping n → r ≡ none → record { reduction = x; refusal = r } ≡ predictedReduction s step damping n
+  unfolding predictedReduction
+  predicts p x e q = rw (← t, not-false g p, ← e, q) refl

@@ -1,0 +1,17 @@
+-- `schur::gradient_norm::scaled` meets its contract. Assumes nothing.
+use mathlib.Core.Path.{refl}
+use borrow.Author.Needs.{needs}
+use Rattle.schur.proofs.gradient_norm.scaled.Statement.{statement}
+use Rattle.schur.proofs.gradient_norm.scaled.Tie as tie
+
+returns : tie.Need-returns
+returns c = rw (c .sqrt .ensures, c .before .max .ensures, c .before .before .abs .ensures) refl
+
+pub scaled-spec : {M : Type 1} → statement M
+scaled-spec =
+    tie.close
+    (tie.spec
+    (λ c κs. search needs)
+    (λ c κs. search needs)
+    (λ c κs. search needs)
+    returns)

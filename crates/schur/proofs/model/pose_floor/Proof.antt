@@ -1,0 +1,18 @@
+-- `schur::model::pose_floor` meets its contract. Assumes nothing.
+use mathlib.Core.Path.{refl}
+use Rattle.schur.specs.Model.{poseFloor}
+use borrow.Author.Needs.{needs}
+use Rattle.schur.proofs.model.pose_floor.Statement.{statement}
+use Rattle.schur.proofs.model.pose_floor.Tie as tie
+
+returns : tie.Need-returns
+unfolding poseFloor
+returns c = rw (c .max .ensures, c .before .largest5 .ensures) refl
+
+pub pose-floor-spec : {M : Type 1} → statement M
+pose-floor-spec =
+    tie.close
+    (tie.spec
+    (λ c κs. search needs)
+    (λ c κs. search needs)
+    returns)
