@@ -213,6 +213,7 @@ module _ (d : Float) (good : T (goodDamping d)) where
   -- What calls that take in the blocks bs make of s. The equations are those of any other system that had the same and adds only the blocks that factor.
   record From (s end : ReducedSystem) (t : Tally) (bs : List LocalLinearization) : Type 0 where
     tallied : tallyOf end ≡ t
+    traceless : end ≡ afterBlocks d s bs
     flag : end .valid ≡ (s .valid && every (factors d) bs)
     elimination : (u : ReducedSystem) → Counts u → T (leb (u .«block_count») (s .«block_count»)) → SameEquations s u
         → SameEquations end (afterBlocks d u (those (factors d) bs))
@@ -223,6 +224,7 @@ module _ (d : Float) (good : T (goodDamping d)) where
   from-none : (s : ReducedSystem) → Sound s → From s s (tallyOf s) []
   from-none s k = record {
     tallied = refl;
+    traceless = refl;
     flag = sym (and-true (s .valid));
     elimination = λ u c l same. same;
     weak-zero = λ z. omega arith;
@@ -273,6 +275,7 @@ module _ (d : Float) (good : T (goodDamping d)) where
       from-taken : From s end t (b ∷ bs)
       from-taken = record {
         tallied = f .tallied;
+        traceless = f .traceless ∙ sym (ap (λ (a : Added). afterBlocks d (a .system) bs) (add-taken s b (k .counts) free));
         flag = from-flag;
         elimination = from-elimination;
         weak-zero = from-weak;
@@ -341,7 +344,7 @@ module _ (d : Float) (good : T (goodDamping d)) where
   pub claim : (calls : List Call) → Claim d calls
   unfolding newSystem
   claim calls = let f = from newSystem calls sound-new in record {
-    figures = λ ran h. let k = ran-each newSystem calls ran h in record { each = k .0; last = k .1 };
+    figures = λ ran h. let k = ran-each newSystem calls ran h in record { each = k .0; last = k .1; traceless = k .1 ∙ f .traceless };
     tallied = record {
       flag = ap (λ (t : Tally). t .flag) (f .tallied);
       blocks = ap (λ (t : Tally). t .blocks) (f .tallied);
@@ -350,7 +353,7 @@ module _ (d : Float) (good : T (goodDamping d)) where
     };
     flag = f .flag;
     elimination = f .elimination newSystem (sound-new .counts) tt (record { hessian = refl; gradient = refl; reduction = refl });
-    weak = record { atZero = λ z. f .weak-zero z ∙ zero-add (weakIn (blocksIn 0 calls)); elsewhere = f .weak-other };
+    weak = record { undamped = λ z. f .weak-zero z ∙ zero-add (weakIn (blocksIn 0 calls)); damped = f .weak-other };
     further = λ more. subst (Further (after d newSystem calls)) (sym (after-append newSystem calls more))
         (from (after d newSystem calls) more (sound-after newSystem calls sound-new) .further);
   }

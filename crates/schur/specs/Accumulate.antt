@@ -5,7 +5,7 @@ use lib.Ieee.{Float}
 use Rattle.number.specs.Binary64.{_⊕_, _⊗_, zero}
 use Rattle.number.specs.Vectors.{_!_, tabulate}
 
--- The products of entry i of rows of n and of entry k of rows of m: x and y are view 1's two rows, z and w view 2's.
+-- Entry i of x's rows of n times entry k of y's rows of m, summed over the two rows of view 1; then z and w of view 2 in the same way.
 abbrev pub products : ℕ → ℕ → List Float → List Float → List Float → List Float → ℕ → ℕ → Float
 products n m x y z w i k = zero ⊕ x ! i ⊗ y ! k ⊕ x ! (n + i) ⊗ y ! (m + k) ⊕ z ! i ⊗ w ! k ⊕ z ! (n + i) ⊗ w ! (m + k)
 

@@ -4,8 +4,8 @@ use mathlib.Core.Path.{_≡_}
 use mathlib.Core.Bool.{Bool, true, false, not, _&&_, _||_, cond}
 use mathlib.Core.List.{List, [], _∷_}
 use lib.Dec.{ltb}
-use lib.Ieee.{Float, le}
-use Rattle.number.specs.Binary64.{epsilon192}
+use lib.Ieee.{Float, le, eq}
+use Rattle.number.specs.Binary64.{zero, epsilon192}
 use Rattle.refusal.specs.Rows as Rows
 use Rattle.refusal.specs.Refused.{of, none, isNone}
 use Rattle.refusal.specs.declared.Refusal.{Refusal}
@@ -17,7 +17,7 @@ use Rattle.schur.specs.declared.linearize.Dot.{Dot}
 use Rattle.schur.specs.declared.system.ReducedSystem.{ReducedSystem}
 use Rattle.schur.specs.declared.system.Added.{Added}
 use Rattle.schur.specs.Linearize.{linearizePoint}
-use Rattle.schur.specs.System.{maxBlocks, isZero, raised, add}
+use Rattle.schur.specs.System.{add}
 
 -- what a block is made from
 pub record Inputs : Type 0 where
@@ -73,14 +73,22 @@ factors d b = isNone (loneFactor (b .«point_hessian») d .refusal)
 unfoldable pub smallRcond : Float → LocalLinearization → Bool
 smallRcond d b = le (loneFactor (b .«point_hessian») d .rcond) epsilon192
 
+-- below row 13's block count
 abbrev pub room : ℕ → Bool
-room blocks = ltb blocks maxBlocks
+room blocks = ltb blocks 65535
+
+-- either zero
+abbrev pub atZero : Float → Bool
+atZero d = eq d zero
+
+abbrev pub oneMore : Bool → ℕ → ℕ
+oneMore b n = cond b (suc n) n
 
 abbrev pub takenIn : Float → Tally → LocalLinearization → Tally
 takenIn d t b = record {
   flag = t .flag && factors d b;
   blocks = suc (t .blocks);
-  weak = raised (isZero d && (not (factors d b) || smallRcond d b)) (t .weak);
+  weak = oneMore (atZero d && (not (factors d b) || smallRcond d b)) (t .weak);
 }
 
 abbrev pub counted : Float → Tally → Call → Tally

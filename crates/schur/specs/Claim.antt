@@ -1,4 +1,4 @@
--- Demand 3: what holds of every list of calls of `add` from a new system. One record, with a field for each sentence.
+-- Demand 3: what holds of every list of calls of `add` from a new system, at a damping that row 3 lets through. One record, with a field for each sentence.
 use Prim.Native.Nat.{ℕ, _+_}
 use mathlib.Core.Path.{_≡_}
 use mathlib.Core.Bool.{true, false, not, _&&_}
@@ -9,8 +9,8 @@ use lib.Ieee.{Float, le}
 use Rattle.schur.specs.declared.linearize.LocalLinearization.{LocalLinearization}
 use Rattle.schur.specs.declared.system.ReducedSystem.{ReducedSystem}
 use Rattle.schur.specs.declared.system.Added.{Added}
-use Rattle.schur.specs.System.{newSystem, isZero}
-use Rattle.schur.specs.Calls.{Call, added, results, after, afterBlocks, Tally, start, factors, smallRcond, tally, refusals, blocksIn, every, those}
+use Rattle.schur.specs.System.{newSystem}
+use Rattle.schur.specs.Calls.{Call, added, results, after, afterBlocks, Tally, start, factors, smallRcond, atZero, tally, refusals, blocksIn, every, those}
 
 -- each handed-back system is what the definition of `add` gives for the call and the system handed back before
 abbrev pub CallByCall : Float → ReducedSystem → List Call → List Added → Type 0
@@ -23,10 +23,11 @@ abbrev pub final : ReducedSystem → List Added → ReducedSystem
 final s [] = s
 final s (r ∷ rs) = final (r .system) rs
 
--- the list alone decides every figure, whoever ran it
+-- Any run of which each call meets the definition of `add` has the list's own figures. They are those of the blocks taken in, so that a refused call leaves no trace.
 pub record Figures (d : Float) (calls : List Call) (ran : List Added) : Type 0 where
   pub each : ran ≡ results d newSystem calls
   pub last : final newSystem ran ≡ after d newSystem calls
+  pub traceless : final newSystem ran ≡ afterBlocks d newSystem (blocksIn 0 calls)
 
 pub record Tallied (d : Float) (calls : List Call) (t : Tally) : Type 0 where
   pub flag : after d newSystem calls .valid ≡ t .flag
@@ -40,9 +41,9 @@ pub record SameEquations (s t : ReducedSystem) : Type 0 where
   pub reduction : s .«point_model_reduction» ≡ t .«point_model_reduction»
 
 pub record WeakCount (d : Float) (weak : ℕ) (blocks : List LocalLinearization) : Type 0 where
-  pub atZero : isZero d ≡ true
+  pub undamped : atZero d ≡ true
       → weak ≡ length (those (λ b. not (factors d b)) blocks) + length (those (λ b. factors d b && smallRcond d b) blocks)
-  pub elsewhere : isZero d ≡ false → weak ≡ 0
+  pub damped : atZero d ≡ false → weak ≡ 0
 
 pub record Further (s t : ReducedSystem) : Type 0 where
   pub cost : T (le (s .cost) (t .cost))

@@ -10,7 +10,7 @@ use Rattle.schur.specs.declared.views.View.{View}
 abbrev pub norm : List Float → Float
 norm residual = sqrt (sum (residual ! 0 ⊗ residual ! 0 ∷ residual ! 1 ⊗ residual ! 1 ∷ []))
 
--- `Loss::L2`: the weight is 1, and the cost half of the square
+-- `Loss::L2`: the root of the weight is 1, and the cost is half of the square
 abbrev pub sqrtWeight : Float → Float
 sqrtWeight residual = one
 
