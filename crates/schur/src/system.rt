@@ -90,8 +90,9 @@ impl ReducedSystem {
                 refusal: Refusal::of(refusal::FULL),
             };
         }
+        let next = self.taken(local, damping);
         Added {
-            system: self.taken(local, damping),
+            system: next,
             refusal: Refusal::none(),
         }
     }
