@@ -32,6 +32,8 @@ functions! {
 #[cfg(test)]
 mod tests {
     use super::*;
+    use crate::function::Answer;
+    use crate::input::Input;
     use crate::lengths;
     use crate::tally::Tally;
 
@@ -47,6 +49,19 @@ mod tests {
             tally.ruled += u64::from(function.is_ruled(&input, &answer));
         }
         tally
+    }
+
+    /// Some matrices do not factor at a damping that row 3 refuses, so that it
+    /// shows which row comes first.
+    #[test]
+    fn rows_3_and_10_meet() {
+        let function = &factor_new::FUNCTION;
+        let meet = |input: &Input| {
+            let refused = (function.oracle)(input) == Answer::row(3);
+            refused && oracle::point_block::new(&input.numbers(0), 1.0).is_none()
+        };
+        let inputs = (0..CASES).map(|case| function.input(3, case));
+        assert!(inputs.filter(meet).count() >= CASES as usize / 100);
     }
 
     /// Results and each row have at least a tenth of the cases, and the rule
