@@ -13,10 +13,9 @@ use lib.Ieee.Fits.{down-pos, mul-fits}
 use lib.Ieee.Order.{round-mono}
 use Rattle.number.specs.Binary64.{_⊕_, _⊗_, half, negZero}
 use Rattle.number.specs.Parts.{isFinite, nonneg}
-use Rattle.number.specs.Extrema.{min}
 use Rattle.number.specs.Root.{sqrt}
 use Rattle.number.proofs.Values.{round-value, round-zero}
-use Rattle.number.proofs.Order.{not-lt, le-refl, min-le-left, nonneg-above, nonneg-add, nonneg-square, nonneg-mul-positive, nonneg-sqrt}
+use Rattle.number.proofs.Order.{not-lt, nonneg-above, nonneg-add, nonneg-square, nonneg-mul-positive, nonneg-sqrt}
 
 -- ---- the order is transitive, with nothing asked: `le` is false where a NaN stands
 
@@ -136,16 +135,6 @@ le-add f (fin false m e) (fin false n d) p h k =
     subst (λ (x : Float). T (le x (round f false s c))) (round-value f (fin false m e) false (m * up e) (down e) (down-pos e) p (refl, refl))
     (round-mono f (m * up e) (down e) s c (down-pos e) (mul-pos (down-pos e) (down-pos d)) (grows (m * up e) (n * up d * down e) (down e) (down d)))
 
--- ---- the smaller of a value that is no NaN and of any other, a NaN too, is at most the first
-
-pub min-le : (x y : Float) → T (not (isNan x)) → T (le (min x y) x)
-unfolding min
-min-le x y p = by (isNan y) refl
-  where
-    by : (n : Bool) → isNan y ≡ n → T (le (min x y) x)
-    by true e = rw e (le-refl x p)
-    by false e = min-le-left x y p (rw e tt)
-
 -- ---- a product with a weight, which is finite and above zero
 
 nonneg-mul-right : (f : Format) (x : Float) (n : ℕ) (d : ℤ) → T (nonneg x) → T (nonneg (mul f x (fin false (suc n) d)))
@@ -171,7 +160,7 @@ nonneg-mul-above f x (fin false zero d) (fin true m e) h k p l = absurd k
 nonneg-mul-above f x (fin false zero d) (fin false m e) h k p l =
     let q = ltb→lt (m * up e * down d) (0 * up d * down e) l in absurd (omega (arith, rw (zero-mul (up d), zero-mul (down e)) at q))
 
-nonneg-zero : (f : Format) → T (nonneg (ofBits f 0))
+pub nonneg-zero : (f : Format) → T (nonneg (ofBits f 0))
 unfolding nonneg ofBits
 nonneg-zero binary32 = tt
 nonneg-zero binary64 = tt
@@ -220,7 +209,7 @@ pub negZero-add : (x : Float) → T (fits binary64 x) → negZero ⊕ x ≡ x
 unfolding ofBits neg
 negZero-add x p = from-negative-zero binary64 x p
 
-finite-not-nan : (x : Float) → T (isFinite x) → T (not (isNan x))
+pub finite-not-nan : (x : Float) → T (isFinite x) → T (not (isNan x))
 unfolding isFinite isNan
 finite-not-nan nan h = h
 finite-not-nan (inf s) h = tt

@@ -191,9 +191,18 @@ pub le-max-right : (x y : Float) → T (not (isNan x)) → T (not (isNan y)) →
 unfolding max
 le-max-right x y p q = pick-has _ _ x y (λ z. T (le y z)) q (le-of-lt y x) (λ h k. le-of-eq y x (rw eq-comm h)) (λ h. le-refl y q)
 
-pub min-le-left : (x y : Float) → T (not (isNan x)) → T (not (isNan y)) → T (le (min x y) x)
+min-le-number : (x y : Float) → T (not (isNan x)) → T (not (isNan y)) → T (le (min x y) x)
 unfolding min
-min-le-left x y p q = pick-has _ _ x y (λ z. T (le z x)) q (λ h. le-refl x p) (λ h k. le-refl x p) (λ h. le-of-not-lt y x q p (is-false (lt x y) h))
+min-le-number x y p q = pick-has _ _ x y (λ z. T (le z x)) q (λ h. le-refl x p) (λ h k. le-refl x p) (λ h. le-of-not-lt y x q p (is-false (lt x y) h))
+
+-- the second may be a NaN, which is passed over
+pub min-le-left : (x y : Float) → T (not (isNan x)) → T (le (min x y) x)
+unfolding min
+min-le-left x y p = by (isNan y) refl
+  where
+    by : (n : Bool) → isNan y ≡ n → T (le (min x y) x)
+    by true e = rw e (le-refl x p)
+    by false e = min-le-number x y p (rw e tt)
 
 pub min-le-right : (x y : Float) → T (not (isNan x)) → T (not (isNan y)) → T (le (min x y) y)
 unfolding min

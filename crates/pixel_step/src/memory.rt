@@ -5,21 +5,21 @@ ghost use Rattle.pixel_step.specs.Interface as Interface;
 use refusal::Refusal;
 
 // A refusal as one number: number + 256 · view + 65,536 · index. It is 0 where nothing was refused.
-pub fn code(refusal: Refusal) -> u64
+pub(crate) fn code(refusal: Refusal) -> u64
     ensures { λ r. ⌜ r ≡ Interface.code refusal ⌝ }
 {
     refusal.number as u64 + 256 * (refusal.view as u64) + 65536 * (refusal.index as u64)
 }
 
 // Row 1: the lengths do not fit.
-pub fn lengths() -> u64
+pub(crate) fn lengths() -> u64
     ensures { λ r. ⌜ r ≡ Interface.lengthsCode ⌝ }
 {
     code(Refusal::of(refusal::LENGTHS))
 }
 
 // Stores the values where nothing was refused, and answers the refusal's code.
-pub fn answer(refusal: Refusal, values: &[f64], out: &mut [f64]) -> u64
+pub(crate) fn answer(refusal: Refusal, values: &[f64], out: &mut [f64]) -> u64
     requires { ⌜ length (now values) ≡ length (now out) ⌝ }
     ensures { λ r. ⌜ (r ≡ Interface.code refusal)
         × (now (out .exit) ≡ Interface.stored refusal (now (values .entry)) (now (out .entry))) ⌝ }
@@ -40,42 +40,42 @@ fn store(values: &[f64], out: &mut [f64])
     }
 }
 
-pub fn vector2(x: &[f64]) -> [f64; 2]
+pub(crate) fn vector2(x: &[f64]) -> [f64; 2]
     requires { ⌜ length (now x) ≡ 2 ⌝ }
     ensures { λ r. ⌜ r ≡ now (x .entry) ⌝ }
 {
     [x[0], x[1]]
 }
 
-pub fn vector3(x: &[f64]) -> [f64; 3]
+pub(crate) fn vector3(x: &[f64]) -> [f64; 3]
     requires { ⌜ length (now x) ≡ 3 ⌝ }
     ensures { λ r. ⌜ r ≡ now (x .entry) ⌝ }
 {
     [x[0], x[1], x[2]]
 }
 
-pub fn vector5(x: &[f64]) -> [f64; 5]
+pub(crate) fn vector5(x: &[f64]) -> [f64; 5]
     requires { ⌜ length (now x) ≡ 5 ⌝ }
     ensures { λ r. ⌜ r ≡ now (x .entry) ⌝ }
 {
     [x[0], x[1], x[2], x[3], x[4]]
 }
 
-pub fn vector6(x: &[f64]) -> [f64; 6]
+pub(crate) fn vector6(x: &[f64]) -> [f64; 6]
     requires { ⌜ length (now x) ≡ 6 ⌝ }
     ensures { λ r. ⌜ r ≡ now (x .entry) ⌝ }
 {
     [x[0], x[1], x[2], x[3], x[4], x[5]]
 }
 
-pub fn vector9(x: &[f64]) -> [f64; 9]
+pub(crate) fn vector9(x: &[f64]) -> [f64; 9]
     requires { ⌜ length (now x) ≡ 9 ⌝ }
     ensures { λ r. ⌜ r ≡ now (x .entry) ⌝ }
 {
     [x[0], x[1], x[2], x[3], x[4], x[5], x[6], x[7], x[8]]
 }
 
-pub fn vector25(x: &[f64]) -> [f64; 25]
+pub(crate) fn vector25(x: &[f64]) -> [f64; 25]
     requires { ⌜ length (now x) ≡ 25 ⌝ }
     ensures { λ r. ⌜ r ≡ now (x .entry) ⌝ }
 {

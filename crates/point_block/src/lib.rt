@@ -10,9 +10,6 @@ ghost use Rattle.point_block.specs.Factor as Factor;
 ghost use Rattle.point_block.specs.Lone as Lone;
 use refusal::Refusal;
 
-// 64ε
-const EPSILON64: f64 = 1.4210854715202004e-14;
-
 // What damping is multiplied with. Beside a refusal every number is +0, here and in the structs below.
 pub struct DampingDiagonal {
     pub values: [f64; 3],
@@ -205,7 +202,7 @@ fn floored(m: [f64; 9], scale: f64) -> [f64; 3]
     requires { ⌜ scale ≡ Damping.largestDiagonal m ⌝ }
     ensures { λ r. ⌜ r ≡ Damping.floored m ⌝ }
 {
-    let floor = EPSILON64 * scale;
+    let floor = number::EPSILON64 * scale;
     [
         number::larger(floor, m[0]),
         number::larger(floor, m[4]),
@@ -272,7 +269,7 @@ fn cholesky_of(a: [f64; 6]) -> Cholesky
 fn good_pivot(p: f64) -> bool
     ensures { λ r. ⌜ r ≡ Factor.goodPivot p ⌝ }
 {
-    number::is_finite(p) & (EPSILON64 < p)
+    number::is_finite(p) & (number::EPSILON64 < p)
 }
 
 fn good_pivots(p: [f64; 3]) -> bool

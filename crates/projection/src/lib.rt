@@ -7,9 +7,6 @@ ghost use mathlib.Core.Path.{_≡_};
 ghost use Rattle.projection.specs.Projection as Projection;
 use refusal::Refusal;
 
-// 64ε
-const EPSILON64: f64 = 1.4210854715202004e-14;
-
 pub struct PinholeCamera {
     pub fx: f64,
     pub fy: f64,
@@ -51,7 +48,7 @@ fn in_front(point: [f64; 3]) -> bool
     let y = number::abs(point[1]);
     let z = number::abs(point[2]);
     let scale = number::larger(number::larger(number::larger(0.0, x), y), z);
-    finite & !(point[2] <= EPSILON64 * scale)
+    finite & !(point[2] <= number::EPSILON64 * scale)
 }
 
 fn linearized(camera: PinholeCamera, observation: [f64; 2], point: [f64; 3]) -> Projected

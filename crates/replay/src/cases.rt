@@ -28,7 +28,7 @@ struct Place {
 
 impl Case {
     // The line that begins at `start`
-    pub fn read(text: &[u8], start: usize) -> Self
+    pub(crate) fn read(text: &[u8], start: usize) -> Self
         requires { ⌜ start ≤ length (now text) ⌝ }
         ensures { λ r. ⌜ start < r .next ⌝ }
     {
@@ -61,7 +61,7 @@ impl Case {
     }
 
     // The number of the word at i
-    pub fn number(self, i: usize) -> f64
+    pub(crate) fn number(self, i: usize) -> f64
         requires { ⌜ i < 160 ⌝ }
     {
         let words = self.words;
@@ -69,7 +69,7 @@ impl Case {
     }
 
     // The numbers of the words from `start` on
-    pub fn fill(self, start: usize, values: &mut [f64])
+    pub(crate) fn fill(self, start: usize, values: &mut [f64])
         requires { ⌜ start + length (now values) ≤ 160 ⌝ }
     {
         for i in 0..values.len() {

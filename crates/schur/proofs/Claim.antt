@@ -2,9 +2,9 @@
 use mathlib.Core.Path.{_≡_, refl, sym, ap, _∙_, subst}
 use mathlib.Core.Bool.{Bool, true, false, not, _&&_, _||_, cond, and-true, and-false, and-assoc}
 use mathlib.Core.List.{List, [], _∷_, _++_, map}
-use Prim.Native.Nat.{ℕ, suc, _+_, _≤_, _<_}
+use Prim.Native.Nat.{ℕ, suc, _+_, _≤_}
 use native.Mathlib.Omega.{arith}
-use native.Mathlib.Nat.{le-trans as le-trans·, zero-add}
+use native.Mathlib.Nat.{le-trans as le-trans·, lt-of-le-of-lt, zero-add}
 use lib.Dec.{T, leb, leb→le, le→leb, ltb→lt, lt→ltb}
 use lib.ListN.{length}
 use lib.Ieee.{Float, fits, binary64, le, ofBits}
@@ -13,8 +13,8 @@ use lib.Ieee.Fits.{add-fits}
 use Rattle.number.specs.Binary64.{_⊕_, zero}
 use Rattle.number.specs.Parts.{nonneg}
 use Rattle.number.specs.Extrema.{min}
-use Rattle.number.proofs.Order.{le-refl, nonneg-not-nan, nonneg-add, nonneg-min}
-use Rattle.number.proofs.Monotone.{le-add, le-trans, zero-le, min-le}
+use Rattle.number.proofs.Order.{min-le-left, le-refl, nonneg-not-nan, nonneg-add, nonneg-min}
+use Rattle.number.proofs.Monotone.{le-add, le-trans, zero-le, nonneg-zero}
 use Rattle.refusal.specs.Rows as Rows
 use Rattle.refusal.specs.Refused.{of, none, isNone}
 use Rattle.point_block.specs.Condition.{reciprocalConditionNumber}
@@ -36,9 +36,6 @@ Counts s = T (leb (s .«weak_point_count») (s .«block_count»))
 add-bad : (s : ReducedSystem) (b : LocalLinearization) (x : Float) → goodDamping x ≡ false → add s b x ≡ record { system = s; refusal = of Rows.damping }
 unfolding add
 add-bad s b x h = rw h refl
-
-lt-of-le : (a b n : ℕ) → a ≤ b → b < n → a < n
-lt-of-le a b n h k = omega arith
 
 module _ (d : Float) (good : T (goodDamping d)) where
   add-taken : (s : ReducedSystem) (b : LocalLinearization) → Counts s → room (s .«block_count») ≡ true → add s b d ≡ record { system = taken s b d; refusal = none }
@@ -166,8 +163,8 @@ module _ (d : Float) (good : T (goodDamping d)) where
         split s b (λ t. T (nonneg (t .«minimum_point_rcond»)) × T (le (t .«minimum_point_rcond») (s .«minimum_point_rcond»)))
         (λ e. by (isZero d) (min m (reciprocalConditionNumber (inverse b) (b .«point_hessian»)))
         (nonneg-min m (reciprocalConditionNumber (inverse b) (b .«point_hessian»)) (k .rcond) (rcond-nonneg (inverse b) (b .«point_hessian»)))
-        (min-le m (reciprocalConditionNumber (inverse b) (b .«point_hessian»)) (nonneg-not-nan m (k .rcond))))
-        (λ e. by (isZero d) zero (unfold nonneg ofBits in tt) (zero-le m (k .rcond)))
+        (min-le-left m (reciprocalConditionNumber (inverse b) (b .«point_hessian»)) (nonneg-not-nan m (k .rcond))))
+        (λ e. by (isZero d) zero (nonneg-zero binary64) (zero-le m (k .rcond)))
       where
         m : Float
         m = s .«minimum_point_rcond»
@@ -212,6 +209,7 @@ module _ (d : Float) (good : T (goodDamping d)) where
 
   -- What calls that take in the blocks bs make of s. The equations are those of any other system that had the same and adds only the blocks that factor.
   record From (s end : ReducedSystem) (t : Tally) (bs : List LocalLinearization) : Type 0 where
+    sound : Sound end
     tallied : tallyOf end ≡ t
     traceless : end ≡ afterBlocks d s bs
     flag : end .valid ≡ (s .valid && every (factors d) bs)
@@ -223,6 +221,7 @@ module _ (d : Float) (good : T (goodDamping d)) where
 
   from-none : (s : ReducedSystem) → Sound s → From s s (tallyOf s) []
   from-none s k = record {
+    sound = k;
     tallied = refl;
     traceless = refl;
     flag = sym (and-true (s .valid));
@@ -264,7 +263,7 @@ module _ (d : Float) (good : T (goodDamping d)) where
           below = leb→le (u .«block_count») (s .«block_count») l
 
           u-free : room (u .«block_count») ≡ true
-          u-free = is-true (room (u .«block_count»)) (lt→ltb (u .«block_count») maxBlocks (lt-of-le (u .«block_count») (s .«block_count») maxBlocks below (ltb→lt (s .«block_count») maxBlocks (rw free tt))))
+          u-free = is-true (room (u .«block_count»)) (lt→ltb (u .«block_count») maxBlocks (lt-of-le-of-lt below (ltb→lt (s .«block_count») maxBlocks (rw free tt))))
 
           by : (x : Bool) → factors d b ≡ x → SameEquations end (afterBlocks d u (cond x (b ∷ those (factors d) bs) (those (factors d) bs)))
           by true e = subst (λ (a : Added). SameEquations end (afterBlocks d (a .system) (those (factors d) bs))) (sym (add-taken u b c u-free))
@@ -274,6 +273,7 @@ module _ (d : Float) (good : T (goodDamping d)) where
 
       from-taken : From s end t (b ∷ bs)
       from-taken = record {
+        sound = f .sound;
         tallied = f .tallied;
         traceless = f .traceless ∙ sym (ap (λ (a : Added). afterBlocks d (a .system) bs) (add-taken s b (k .counts) free));
         flag = from-flag;
@@ -312,16 +312,6 @@ module _ (d : Float) (good : T (goodDamping d)) where
       by true e f g = rw (add-taken s (made i) (k .counts) e, ← tally-taken s (made i)) (ap (λ l. none ∷ l) (f (next-sound s i k e)))
       by false e f g = rw (add-full s (made i) (k .counts) e) (ap (λ l. of Rows.full ∷ l) g)
 
-  sound-after : (s : ReducedSystem) (cs : List Call) → Sound s → Sound (after d s cs)
-  sound-after s [] k = k
-  sound-after s (atRefused i x h ∷ cs) k = rw (add-bad s (made i) x h) (sound-after s cs k)
-  sound-after s (atDamping i ∷ cs) k = by (room (s .«block_count»)) refl (λ h. sound-after (taken s (made i) d) cs h) (sound-after s cs k)
-    where
-      by : (x : Bool) → room (s .«block_count») ≡ x → (Sound (taken s (made i) d) → Sound (after d (taken s (made i) d) cs)) → Sound (after d s cs)
-          → Sound (after d (add s (made i) d .system) cs)
-      by true e f g = rw (add-taken s (made i) (k .counts) e) (f (next-sound s i k e))
-      by false e f g = rw (add-full s (made i) (k .counts) e) g
-
   after-append : (s : ReducedSystem) (cs more : List Call) → after d s (cs ++ more) ≡ after d (after d s cs) more
   after-append s [] more = refl
   after-append s (c ∷ cs) more = after-append (added d s c .system) cs more
@@ -355,5 +345,5 @@ module _ (d : Float) (good : T (goodDamping d)) where
     elimination = f .elimination newSystem (sound-new .counts) tt (record { hessian = refl; gradient = refl; reduction = refl });
     weak = record { undamped = λ z. f .weak-zero z ∙ zero-add (weakIn (blocksIn 0 calls)); damped = f .weak-other };
     further = λ more. subst (Further (after d newSystem calls)) (sym (after-append newSystem calls more))
-        (from (after d newSystem calls) more (sound-after newSystem calls sound-new) .further);
+        (from (after d newSystem calls) more (f .sound) .further);
   }

@@ -3,13 +3,13 @@ use mathlib.Core.Path.{_≡_, refl, sym, subst}
 use mathlib.Core.Bool.{Bool, true, false, not, _&&_, cond, Bool·not-not}
 use mathlib.Core.List.{List}
 use lib.Dec.{T}
-use lib.Ieee.{Float, nan, inf, fin, binary64, isNan, lt, le, ofBits}
+use lib.Ieee.{Float, binary64, lt, le}
 use lib.Ieee.Fits.{and-l, and-r}
 use Rattle.number.specs.Binary64.{_⊕_, _⊗_, zero}
 use Rattle.number.specs.Parts.{isFinite, nonneg}
 use Rattle.number.specs.Vectors.{_!_}
 use Rattle.number.proofs.Order.{not-lt, nonneg-add, nonneg-not-nan, nonneg-square}
-use Rattle.number.proofs.Monotone.{nonneg-mul-weight, nonneg-half-square, nonneg-sum-squares}
+use Rattle.number.proofs.Monotone.{nonneg-zero, finite-not-nan, nonneg-mul-weight, nonneg-half-square, nonneg-sum-squares}
 use Rattle.refusal.specs.Rows as Rows
 use Rattle.refusal.specs.Refused.{at, of, isNone}
 use Rattle.refusal.specs.declared.Refusal.{Refusal}
@@ -27,16 +27,6 @@ use Rattle.schur.specs.Linearize.{goodDeviation, notMade, sums, block, l
 abbrev pub Costs : LocalLinearization → Type 0
 Costs b = T (nonneg (b .cost)) × T (nonneg (b .«squared_residual»))
 
-nonneg-zero : T (nonneg zero)
-unfolding nonneg ofBits
-nonneg-zero = tt
-
-finite-number : (x : Float) → T (isFinite x) → T (not (isNan x))
-unfolding isFinite isNan
-finite-number nan h = absurd h
-finite-number (inf s) h = absurd h
-finite-number (fin s m e) h = tt
-
 deviation-finite : (w : Float) → T (goodDeviation w) → T (isFinite w)
 unfolding goodDeviation
 deviation-finite w h = and-l (isFinite w) (not (le w zero)) h
@@ -45,7 +35,7 @@ deviation-above : (w : Float) → T (goodDeviation w) → T (lt zero w)
 unfolding goodDeviation
 deviation-above w h =
     subst T (Bool·not-not (lt zero w))
-    (subst (λ (b : Bool). T (not b)) (sym (not-lt zero w (nonneg-not-nan zero nonneg-zero) (finite-number w (deviation-finite w h))))
+    (subst (λ (b : Bool). T (not b)) (sym (not-lt zero w (nonneg-not-nan zero (nonneg-zero binary64)) (finite-not-nan w (deviation-finite w h))))
     (and-r (isFinite w) (not (le w zero)) h))
 
 first-two : (a b c d e f g h : Bool) → T (a && b && c && d && e && f && g && h) → T a × T b
@@ -63,7 +53,7 @@ cost-nonneg : (m w : Float) → T (nonneg m) → T (goodDeviation w) → T (nonn
 cost-nonneg m w n h = nonneg-half-square (m ⊗ w) (nonneg-mul-weight binary64 m w n (deviation-finite w h) (deviation-above w h))
 
 sum-nonneg : (x y : Float) → T (nonneg x) → T (nonneg y) → T (nonneg (zero ⊕ x ⊕ y))
-sum-nonneg x y p q = nonneg-add binary64 (zero ⊕ x) y (nonneg-add binary64 zero x nonneg-zero p) q
+sum-nonneg x y p q = nonneg-add binary64 (zero ⊕ x) y (nonneg-add binary64 zero x (nonneg-zero binary64) p) q
 
 block-costs : (first second : Projected) (rotated : List Float) (pose : Pose) (w : Float) → T (goodDeviation w) → T (allFinite first) → T (allFinite second)
     → Costs (block first second rotated pose w)
@@ -79,7 +69,7 @@ block-costs first second rotated pose w h f g =
 
 not-made-costs : (r : Refusal) → Costs (notMade r)
 unfolding notMade
-not-made-costs r = (nonneg-zero, nonneg-zero)
+not-made-costs r = (nonneg-zero binary64, nonneg-zero binary64)
 
 pub made-costs : (camera1 camera2 : PinholeCamera) (pose : Pose) (dot : Dot) → Costs (linearizePoint camera1 camera2 pose dot)
 unfolding linearizePoint

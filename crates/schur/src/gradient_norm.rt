@@ -10,9 +10,6 @@ ghost use Rattle.number.specs.Vectors.{_!_};
 ghost use mathlib.Core.List.{[], _∷_};
 use crate::linearize::LocalLinearization;
 
-// 64ε
-const EPSILON64: f64 = 1.4210854715202004e-14;
-
 pub fn point_gradient_norm(local: LocalLinearization) -> f64
     ensures { λ r. ⌜ r ≡ System.pointGradientNorm local ⌝ }
 {
@@ -28,7 +25,7 @@ fn norm3(g: [f64; 3], d: [f64; 3]) -> f64
     if !(number::is_finite(scale) & (0.0 < scale)) {
         return unscaled((g[0] == 0.0) & (g[1] == 0.0) & (g[2] == 0.0));
     }
-    let floor = EPSILON64 * scale;
+    let floor = number::EPSILON64 * scale;
     largest3([
         scaled(g[0], d[0], floor),
         scaled(g[1], d[1], floor),
@@ -45,7 +42,7 @@ pub fn norm5(g: [f64; 5], d: [f64; 5]) -> f64
             (g[0] == 0.0) & (g[1] == 0.0) & (g[2] == 0.0) & (g[3] == 0.0) & (g[4] == 0.0),
         );
     }
-    let floor = EPSILON64 * scale;
+    let floor = number::EPSILON64 * scale;
     largest5([
         scaled(g[0], d[0], floor),
         scaled(g[1], d[1], floor),

@@ -6,16 +6,10 @@ ghost use mathlib.Core.Path.{_≡_};
 ghost use Rattle.schur.specs.Model as Model;
 use crate::gradient_norm;
 
-// 64ε
-const EPSILON64: f64 = 1.4210854715202004e-14;
-
-// `f64::MIN_POSITIVE`
-const MIN_POSITIVE: f64 = 2.2250738585072014e-308;
-
 fn pose_floor(d: [f64; 5]) -> f64
     ensures { λ r. ⌜ r ≡ Model.poseFloor d ⌝ }
 {
-    EPSILON64 * number::max(gradient_norm::largest5(d), MIN_POSITIVE)
+    number::EPSILON64 * number::max(gradient_norm::largest5(d), number::MIN_POSITIVE)
 }
 
 pub fn damped_hessian(h: [f64; 25], d: [f64; 5], damping: f64) -> [f64; 25]

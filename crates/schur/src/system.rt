@@ -18,9 +18,6 @@ use refusal::Refusal;
 // The most blocks that a system takes in
 const MAX_BLOCKS: u16 = 65535;
 
-// 192ε: a block whose rcond is not above it is weak.
-const EPSILON192: f64 = 4.263256414560601e-14;
-
 pub struct ReducedSystem {
     pub hessian: [f64; 25],
     pub gradient: [f64; 5],
@@ -211,7 +208,7 @@ impl ReducedSystem {
         if damping == 0.0 {
             let matrix = local.point_hessian;
             let rcond = factor.reciprocal_condition_number(matrix);
-            let count = raised(rcond <= EPSILON192, weak);
+            let count = raised(rcond <= number::EPSILON192, weak);
             return self.taken_with(
                 local,
                 hessian,
