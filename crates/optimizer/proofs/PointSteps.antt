@@ -1,0 +1,92 @@
+-- "Once the system is valid no point step is refused" (document 01, "One whole step"): the claim on lists of calls of `add` says that each block factors. Assumes nothing.
+use mathlib.Core.Path.{_≡_, refl, sym, ap, _∙_}
+use mathlib.Core.Bool.{Bool, true, false, _&&_, true≢false}
+use mathlib.Core.List.{List, [], _∷_}
+use Prim.Native.Nat.{ℕ, zero, suc, _+_, _≤_, _<_}
+use native.Mathlib.Nat.{add-zero, add-suc, suc-add, zero-add}
+use native.Mathlib.Omega.{arith}
+use borrow.Author.Tests.{lt-ltb}
+use lib.Dec.{T}
+use lib.Ieee.{Float}
+use lib.Ieee.Bits.{is-true}
+use Rattle.number.specs.Vectors.{allFinite}
+use Rattle.refusal.specs.Refused.{none}
+use Rattle.point_block.specs.Lone.{goodDamping}
+use Rattle.point_block.proofs.Laws.{lone-factors}
+use Rattle.schur.specs.Model.{withHessian, finishDamping, isValid}
+use Rattle.schur.specs.PointStep.{stepped, pointStep}
+use Rattle.schur.specs.Calls.{Inputs, Call, atDamping, after, factors, blocksIn, every}
+use Rattle.schur.specs.declared.linearize.LocalLinearization.{LocalLinearization}
+use Rattle.schur.specs.declared.system.ReducedSystem.{ReducedSystem}
+use Rattle.schur.proofs.Claim.{claim}
+use Rattle.optimizer.specs.Plate.{Plate, count, dotAt, blockOf, blockAt}
+use Rattle.optimizer.specs.Step.{systemTo, reducedSystem, pointStepOf, stepAt}
+
+-- ---- the plate's blocks as calls of `add`, from an index on
+
+abbrev inputs : Plate → ℕ → Inputs
+inputs p i = record { camera1 = p .head .camera1; camera2 = p .head .camera2; pose = p .head .pose; dot = dotAt (p .points) (p .view1) (p .view2) (p .deviations) i }
+
+abbrev calls : Plate → ℕ → ℕ → List Call
+calls p i zero = []
+calls p i (suc n) = atDamping (inputs p i) ∷ calls p (suc i) n
+
+abbrev blocks : Plate → ℕ → ℕ → List LocalLinearization
+blocks p i zero = []
+blocks p i (suc n) = blockAt p i ∷ blocks p (suc i) n
+
+after-calls : (p : Plate) (i n : ℕ) → after (p .damping) (systemTo p i) (calls p i n) ≡ systemTo p (i + n)
+unfolding systemTo blockOf
+after-calls p i zero = ap (λ (k : ℕ). systemTo p k) (sym (add-zero i))
+after-calls p i (suc n) = after-calls p (suc i) n ∙ ap (λ (k : ℕ). systemTo p k) (suc-add i n ∙ sym (add-suc i n))
+
+all-taken : (p : Plate) (m i n : ℕ) → m + n ≤ 65535 → blocksIn m (calls p i n) ≡ blocks p i n
+unfolding blockOf
+all-taken p m i zero h = refl
+all-taken p m i (suc n) h =
+    let k : m < 65535 = omega arith in
+    rw (lt-ltb m 65535 k) (ap (λ (l : List LocalLinearization). blockAt p i ∷ l) (all-taken p (suc m) (suc i) n (omega arith)))
+
+-- what holds of every block holds of each
+and-parts : (x y : Bool) → (x && y) ≡ true → (x ≡ true) × (y ≡ true)
+and-parts true y e = (refl, e)
+and-parts false y e = absurd (true≢false (sym e))
+
+each : (p : Plate) (good : LocalLinearization → Bool) (i n j : ℕ) → every good (blocks p i n) ≡ true → j < n → good (blockAt p (i + j)) ≡ true
+each p good i zero j e h = absurd (omega arith)
+each p good i (suc n) zero e h = ap (λ (k : ℕ). good (blockAt p k)) (add-zero i) ∙ and-parts (good (blockAt p i)) (every good (blocks p (suc i) n)) e .0
+each p good i (suc n) (suc j) e h =
+    ap (λ (k : ℕ). good (blockAt p k)) (add-suc i j ∙ sym (suc-add i j))
+    ∙ each p good (suc i) n j (and-parts (good (blockAt p i)) (every good (blocks p (suc i) n)) e .1) (omega arith)
+
+-- ---- a valid system, and a block that factors
+
+valid-flag : (s : ReducedSystem) → isValid s ≡ true → s .valid ≡ true
+unfolding isValid
+valid-flag s e = and-parts (s .valid) (allFinite (s .gradient)) (and-parts (s .valid && allFinite (s .gradient)) (allFinite (s .hessian)) e .0) .0
+
+same-flag : (s : ReducedSystem) (d : Float) → T (goodDamping d) → finishDamping s d .system .valid ≡ s .valid
+unfolding finishDamping withHessian
+same-flag s d g = rw (is-true (goodDamping d) g) refl
+
+steps : (b : LocalLinearization) (d : Float) (s : List Float) → T (goodDamping d) → factors d b ≡ true → pointStep b d s .refusal ≡ none
+unfolding pointStep stepped factors
+steps b d s g e = rw (is-true (goodDamping d) g, sym (lone-factors (b .«point_hessian») d g) ∙ e) refl
+
+-- every block of a plate that has a valid system factors
+module _ (p : Plate) (good : T (goodDamping (p .damping))) (h : count p ≤ 65535) (valid : isValid (reducedSystem p) ≡ true) where
+  all-factor : every (factors (p .damping)) (blocks p 0 (count p)) ≡ true
+  unfolding reducedSystem systemTo
+  all-factor =
+      ap (λ (l : List LocalLinearization). every (factors (p .damping)) l) (sym (all-taken p 0 0 (count p) (omega arith)))
+      ∙ sym (claim (p .damping) good (calls p 0 (count p)) .flag)
+      ∙ ap (λ (t : ReducedSystem). t .valid) (after-calls p 0 (count p))
+      ∙ ap (λ (k : ℕ). systemTo p k .valid) (zero-add (count p))
+      ∙ sym (same-flag (systemTo p (count p)) (p .damping) good)
+      ∙ valid-flag (reducedSystem p) valid
+
+  pub no-step-refused : (i : ℕ) → i < count p → (s : List Float) → stepAt p s i .refusal ≡ none
+  unfolding pointStepOf
+  no-step-refused i k s =
+      steps (blockAt p i) (p .damping) s good
+      (ap (λ (j : ℕ). factors (p .damping) (blockAt p j)) (sym (zero-add i)) ∙ each p (factors (p .damping)) 0 (count p) i all-factor k)

@@ -1,0 +1,141 @@
+-- The whole step: what each way out of it gives. Assumes nothing.
+use mathlib.Core.Path.{_≡_, refl, sym, ap, _∙_, subst}
+use mathlib.Core.Bool.{Bool, true, false, not, cond, true≢false}
+use mathlib.Core.List.{List}
+use Prim.Native.Nat.{ℕ, _*_}
+use borrow.Author.Tests.{not-true, not-false, eqb-true}
+use lib.Dec.{T, eqb, leb}
+use lib.ListN.{length}
+use lib.Ieee.{Float}
+use Rattle.refusal.specs.Rows as Rows
+use Rattle.refusal.specs.Refused.{of, isNone}
+use Rattle.refusal.specs.declared.Refusal.{Refusal}
+use Rattle.point_block.specs.Lone.{goodDamping}
+use Rattle.solver.specs.Solver.{solvePositiveDefinite}
+use Rattle.solver.specs.declared.Solved.{Solved}
+use Rattle.schur.specs.Model.{isValid}
+use Rattle.schur.specs.declared.system.ReducedSystem.{ReducedSystem}
+use Rattle.optimizer.specs.declared.StepResult.{StepResult}
+use Rattle.optimizer.specs.declared.point_steps.Sums.{Sums}
+use Rattle.optimizer.specs.Plate.{Plate, count}
+use Rattle.optimizer.specs.Checks as Checks
+use Rattle.optimizer.specs.Step.{reducedSystem, poseStep, solvedOf, poseStepOf, stepsTo, sumsTo, finished, notStepped, stepped, solvedStep, refused, step, written, Done}
+use Rattle.optimizer.proofs.Scans.{stop-unless, pass-unless, row-refuses}
+use Rattle.optimizer.proofs.Parts.{all-fit}
+use Rattle.optimizer.proofs.PointSteps.{no-step-refused}
+
+-- rows 10 and 11, and the step
+module _ (p : Plate) (room : List Float) (r : StepResult) (system : ReducedSystem) (e : system ≡ reducedSystem p) (valid : Bool) (f : valid ≡ isValid system) where
+  abbrev Solves : List Float → Type 0
+  Solves after = (r ≡ solvedStep p) × (after ≡ written p r room)
+
+  pub not-valid : not valid ≡ true → (x : Refusal) → x ≡ of Rows.notFactored → r ≡ notStepped x → Solves room
+  unfolding solvedStep written notStepped isNone
+  not-valid t x g h = (h ∙ rw (g, ← e, ← f, not-true valid t) refl, rw (h, g) refl)
+
+  module _ (t : not valid ≡ false) (x : Solved) (g : x ≡ solvePositiveDefinite (system .hessian) (system .gradient)) (b : Bool) (k : b ≡ isNone (x .refusal)) where
+    same : x ≡ solvedOf p
+    same = g ∙ ap (λ (s : ReducedSystem). solvePositiveDefinite (s .hessian) (s .gradient)) e
+
+    pub not-solved : not b ≡ true → (y : Refusal) → y ≡ of Rows.notSolved → r ≡ notStepped y → Solves room
+    unfolding solvedStep written notStepped isNone
+    not-solved u y l h = (h ∙ rw (l, ← same, ← k, ← e, ← f, not-false valid t, not-true b u) refl, rw (h, l) refl)
+
+    module _ (u : not b ≡ false) (s : List Float) (l : s ≡ poseStep (x .x)) (sums : Sums) (h : r ≡ finished system s (p .damping) (count p) sums) where
+      same-step : s ≡ poseStepOf p
+      unfolding poseStepOf
+      same-step = l ∙ ap (λ (y : Solved). poseStep (y .x)) same
+
+      takes : solvedStep p ≡ stepped p
+      unfolding solvedStep
+      takes = rw (← same, ← k, not-false b u, ← e, ← f, not-false valid t) refl
+
+      writes : written p r room ≡ stepsTo p (poseStepOf p) (count p)
+      unfolding written finished isNone
+      writes = rw h refl
+
+      pub solves : (after : List Float) → (sums ≡ sumsTo p s (count p)) × (after ≡ stepsTo p s (count p)) → Solves after
+      unfolding stepped
+      solves after m = (
+        h
+            ∙ ap (λ (y : Sums). finished system s (p .damping) (count p) y) (m .0)
+            ∙ ap (λ (y : List Float). finished system y (p .damping) (count p) (sumsTo p y (count p))) same-step
+            ∙ ap (λ (y : ReducedSystem). finished y (poseStepOf p) (p .damping) (count p) (sumsTo p (poseStepOf p) (count p))) e
+            ∙ sym takes,
+        m .1 ∙ ap (λ (y : List Float). stepsTo p y (count p)) same-step ∙ sym writes,
+      )
+
+-- ---- what a step that is not refused says of the checks before it
+
+after-none : (x s : Refusal) → isNone (Checks.orElse x s) ≡ true → (isNone x ≡ true) × (isNone s ≡ true)
+after-none x s e = by (isNone x) refl e
+  where
+    by : (b : Bool) → isNone x ≡ b → isNone (cond b s x) ≡ true → (isNone x ≡ true) × (isNone s ≡ true)
+    by true q h = (q, h)
+    by false q h = absurd (true≢false (sym h ∙ q))
+
+held : (good : Bool) (x : Refusal) → isNone x ≡ false → isNone (Checks.unless good x) ≡ true → good ≡ true
+held true x n e = refl
+held false x n e = absurd (true≢false (sym e ∙ n))
+
+pub checked : (p : Plate) → isNone (Checks.refused p) ≡ true → Checks.Fits (p .points) (p .view1) (p .view2) (p .deviations) × T (goodDamping (p .damping))
+unfolding Checks.refused Checks.valuesRefused
+checked p e =
+    let lengths = after-none (Checks.unless (Checks.lengthsFit p) (of Rows.lengths)) _ e in
+    let points = after-none (Checks.unless (leb (count p) Checks.maxPoints) (of Rows.tooManyPoints)) (Checks.valuesRefused p) (lengths .1) in
+    let damping = after-none (Checks.unless (goodDamping (p .damping)) (of Rows.damping)) _ (points .1) in
+    let fit = ap not (held (Checks.lengthsFit p) (of Rows.lengths) (row-refuses Rows.lengths 0 0 refl) (lengths .0)) in
+    let few = ap not (held (leb (count p) Checks.maxPoints) (of Rows.tooManyPoints) (row-refuses Rows.tooManyPoints 0 0 refl) (points .0)) in
+    let good = held (goodDamping (p .damping)) (of Rows.damping) (row-refuses Rows.damping 0 0 refl) (damping .0) in
+    (all-fit _ _ _ _ _ _ _ refl refl refl fit few, subst T (sym good) tt)
+
+valid-if-none : (p : Plate) → isNone (solvedStep p .refusal) ≡ true → isValid (reducedSystem p) ≡ true
+unfolding solvedStep notStepped isNone
+valid-if-none p e = by (isValid (reducedSystem p)) refl e
+  where
+    by : (b : Bool) → isValid (reducedSystem p) ≡ b
+        → isNone (cond b (cond (isNone (solvedOf p .refusal)) (stepped p) (notStepped (of Rows.notSolved))) (notStepped (of Rows.notFactored)) .refusal) ≡ true → isValid (reducedSystem p) ≡ true
+    by true q h = q
+    by false q h = absurd (true≢false (sym h))
+
+pub passed : (x v : Refusal) (b : Bool) → v ≡ x → b ≡ isNone v → not b ≡ false → isNone x ≡ true
+passed x v b e f t = ap isNone (sym e) ∙ sym f ∙ not-false b t
+
+pub room-fits : (b : Bool) (l n : ℕ) → b ≡ eqb l n → not b ≡ false → l ≡ n
+room-fits b l n e t = eqb-true l n (sym e ∙ not-false b t)
+
+-- ---- the ways out
+
+module _ (p : Plate) (room : List Float) (r : StepResult) where
+  refuses : (x : Refusal) → isNone x ≡ false → refused p (length room) ≡ x → r ≡ notStepped x → Done p room r room
+  unfolding step written notStepped
+  refuses x n e h = record {
+    result = h ∙ rw (e, n) refl;
+    room-after = rw (h, n) refl;
+    none-refused = λ y. absurd (true≢false (sym y ∙ ap (λ (t : StepResult). isNone (t .refusal)) h ∙ n));
+  }
+
+  module _ (fits : Bool) (e : fits ≡ eqb (length room) (3 * count p)) where
+    pub wrong-room : not fits ≡ true → (x : Refusal) → x ≡ of Rows.lengths → r ≡ notStepped x → Done p room r room
+    unfolding refused
+    wrong-room t x g h =
+        refuses (of Rows.lengths) (row-refuses Rows.lengths 0 0 refl)
+        (sym (stop-unless (of Rows.lengths) (Checks.refused p) (of Rows.lengths) (eqb (length room) (3 * count p)) fits e refl t refl))
+        (h ∙ ap notStepped g)
+
+    module _ (t : not fits ≡ false) (v : Refusal) (f : v ≡ Checks.refused p) (b : Bool) (g : b ≡ isNone v) where
+      same-refusal : refused p (length room) ≡ v
+      unfolding refused
+      same-refusal = sym (pass-unless (of Rows.lengths) (Checks.refused p) v (eqb (length room) (3 * count p)) fits e t f)
+
+      pub plate-refused : not b ≡ true → r ≡ notStepped v → Done p room r room
+      plate-refused u h = refuses v (sym g ∙ not-true b u) same-refusal h
+
+      pub done : not b ≡ false → (after : List Float) → (r ≡ solvedStep p) × (after ≡ written p r room) → Done p room r after
+      unfolding step
+      done u after m =
+          let k = checked p (passed (Checks.refused p) v b f g u) in record {
+            result = m .0 ∙ rw (same-refusal, ← g, not-false b u) refl;
+            room-after = m .1;
+            none-refused = λ y i h. no-step-refused p (k .1) (k .0 .3) (valid-if-none p (ap (λ (q : StepResult). isNone (q .refusal)) (sym (m .0)) ∙ y)) i h (poseStepOf p);
+          }

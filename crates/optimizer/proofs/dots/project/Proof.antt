@@ -1,0 +1,25 @@
+-- `optimizer::dots::project` meets its contract. Assumes nothing.
+use Rattle.optimizer.specs.Plate.{project}
+use borrow.Author.Tests.{eq-eqb, ne-eqb}
+use borrow.Author.Needs.{needs}
+use Rattle.optimizer.proofs.dots.project.Statement.{statement}
+use Rattle.optimizer.proofs.dots.project.Tie as tie
+
+returns : tie.Need-returns
+unfolding project
+returns c = rw (eq-eqb _ _ (c .before .if1 .taken)) (c .pixel-projection .ensures)
+
+returns-2 : tie.Need-returns-2
+unfolding project
+returns-2 c = rw (ne-eqb _ _ (c .before .before .before .if1 .left)) cc
+
+pub project-spec : {M : Type 1} → statement M
+project-spec =
+    tie.close
+    (tie.spec
+    (λ c κs. search needs)
+    (λ c κs. search needs)
+    (λ c κs. search needs)
+    (λ c κs. search needs)
+    returns
+    returns-2)

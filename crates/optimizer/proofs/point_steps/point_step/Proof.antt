@@ -1,0 +1,17 @@
+-- `optimizer::point_steps::point_step` meets its contract. Assumes nothing.
+use Rattle.optimizer.specs.Step.{pointStepOf}
+use borrow.Author.Needs.{needs}
+use Rattle.optimizer.proofs.point_steps.point_step.Statement.{statement}
+use Rattle.optimizer.proofs.point_steps.point_step.Tie as tie
+
+returns : tie.Need-returns
+unfolding pointStepOf
+returns c = cc
+
+pub point-step-spec : {M : Type 1} → statement M
+point-step-spec =
+    tie.close
+    (tie.spec
+    (λ c κs. search needs)
+    (λ c κs. search needs)
+    returns)

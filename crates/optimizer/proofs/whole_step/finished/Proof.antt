@@ -1,0 +1,22 @@
+-- `optimizer::whole_step::finished` meets its contract. Assumes nothing.
+use Rattle.optimizer.specs.Step.{finished}
+use native.Mathlib.Omega.{arith}
+use borrow.Author.Needs.{needs}
+use Rattle.optimizer.proofs.whole_step.finished.Statement.{statement}
+use Rattle.optimizer.proofs.whole_step.finished.Tie as tie
+
+returns : tie.Need-returns
+unfolding finished
+returns c = cc
+
+pub finished-spec : {M : Type 1} → statement M
+finished-spec =
+    tie.close
+    (tie.spec
+    (λ c κs. search needs)
+    (λ c. omega arith)
+    (λ c. omega arith)
+    (λ c κs. search needs)
+    (λ c κs. search needs)
+    (λ c κs. search needs)
+    returns)

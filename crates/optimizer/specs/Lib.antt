@@ -1,0 +1,4 @@
+-- Module 6 of document 01, and "One whole step": optimizer.rs.
+pub mod Plate
+pub mod Checks
+pub mod Step

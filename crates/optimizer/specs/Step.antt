@@ -1,0 +1,151 @@
+-- `refine_impl` of optimizer.rs from `reduced_system` to `predicted_reduction`, once: document 01, "One whole step".
+use Prim.Native.Nat.{ℕ, zero, suc, _*_, _<_}
+use mathlib.Core.Path.{_≡_}
+use mathlib.Core.Bool.{true, cond}
+use mathlib.Core.List.{List, [], _∷_, _++_}
+use lib.Dec.{eqb}
+use lib.IntN.{pos}
+use lib.ListN.{length}
+use lib.Ieee.{Float, binary64, neg, lt, ofInt}
+use Rattle.number.specs.Binary64.{_⊕_, _⊗_, _⊘_, zero as zero·, half}
+use Rattle.number.specs.Extrema.{max}
+use Rattle.number.specs.Root.{sqrt}
+use Rattle.number.specs.Vectors.{_!_, sum, tabulate}
+use Rattle.refusal.specs.Rows as Rows
+use Rattle.refusal.specs.Refused.{of, none, isNone}
+use Rattle.refusal.specs.declared.Refusal.{Refusal}
+use Rattle.solver.specs.Solver.{solvePositiveDefinite}
+use Rattle.solver.specs.declared.Solved.{Solved}
+use Rattle.schur.specs.System.{newSystem, add}
+use Rattle.schur.specs.Model.{finishDamping, isValid, gradientInfNorm, predictedReduction}
+use Rattle.schur.specs.PointStep.{pointStep}
+use Rattle.schur.specs.declared.system.ReducedSystem.{ReducedSystem}
+use Rattle.schur.specs.declared.linearize.Dot.{Dot}
+use Rattle.schur.specs.declared.point_step.PointStep.{PointStep}
+use Rattle.optimizer.specs.declared.Head.{Head}
+use Rattle.optimizer.specs.declared.StepResult.{StepResult}
+use Rattle.optimizer.specs.declared.point_steps.Sums.{Sums}
+use Rattle.optimizer.specs.Plate.{Plate, count, dotAt, blockOf, blockAt}
+use Rattle.optimizer.specs.Checks as Checks
+
+-- the system with the first blocks added, in their order
+unfoldable pub systemTo : Plate → ℕ → ReducedSystem
+systemTo p zero = newSystem
+systemTo p (suc n) = add (systemTo p n) (blockAt p n) (p .damping) .system
+
+-- `reduced_system`: all blocks, then the pose damping
+unfoldable pub reducedSystem : Plate → ReducedSystem
+reducedSystem p = finishDamping (systemTo p (count p)) (p .damping) .system
+
+-- ---- the step of the pose
+
+abbrev pub squared : Float → Float
+squared x = x ⊗ x
+
+-- the longer of the rotation's part and the translation's
+abbrev pub stepLength : List Float → Float
+stepLength x = max (sqrt (sum (squared (x ! 0) ∷ squared (x ! 1) ∷ squared (x ! 2) ∷ []))) (sqrt (sum (squared (x ! 3) ∷ squared (x ! 4) ∷ [])))
+
+abbrev pub scaled : List Float → Float → List Float
+scaled x by = tabulate 5 (λ i. x ! i ⊗ by)
+
+-- `limit_pose_step` at 0.5; the comparison is false for a NaN, which lets the vector through
+unfoldable pub limitPoseStep : List Float → List Float
+limitPoseStep x = cond (lt half (stepLength x)) (scaled x (half ⊘ stepLength x)) x
+
+unfoldable pub poseStep : List Float → List Float
+poseStep x = limitPoseStep (tabulate 5 (λ i. neg (x ! i)))
+
+abbrev pub solvedOf : Plate → Solved
+solvedOf p = solvePositiveDefinite (reducedSystem p .hessian) (reducedSystem p .gradient)
+
+-- the limited step of a valid system that is solved
+unfoldable pub poseStepOf : Plate → List Float
+poseStepOf p = poseStep (solvedOf p .x)
+
+-- ---- the steps of the points, and their sums as `candidate_cost` has them, from +0
+
+unfoldable pub pointStepOf : Head → Dot → Float → List Float → PointStep
+pointStepOf h dot damping s = pointStep (blockOf h dot) damping s
+
+abbrev pub stepAt : Plate → List Float → ℕ → PointStep
+stepAt p s i = pointStepOf (p .head) (dotAt (p .points) (p .view1) (p .view2) (p .deviations) i) (p .damping) s
+
+unfoldable pub stepsTo : Plate → List Float → ℕ → List Float
+stepsTo p s zero = []
+stepsTo p s (suc n) = stepsTo p s n ++ stepAt p s n .step
+
+abbrev pub squaredNorm : List Float → Float
+squaredNorm x = sum (squared (x ! 0) ∷ squared (x ! 1) ∷ squared (x ! 2) ∷ [])
+
+unfoldable pub sumsTo : Plate → List Float → ℕ → Sums
+sumsTo p s zero = record { squared = zero·; «damping_norm» = zero· }
+sumsTo p s (suc n) = record {
+  squared = sumsTo p s n .squared ⊕ squaredNorm (stepAt p s n .step);
+  «damping_norm» = sumsTo p s n .«damping_norm» ⊕ stepAt p s n .«damping_norm»;
+}
+
+abbrev pub rms : Float → ℕ → Float
+rms squares n = sqrt (squares ⊘ ofInt binary64 (pos n))
+
+-- ---- the whole
+
+-- the result, from the system, the limited step of the pose and the sums
+unfoldable pub finished : ReducedSystem → List Float → Float → ℕ → Sums → StepResult
+finished system s damping n sums = record {
+  «pose_step» = s;
+  cost = system .cost;
+  «squared_residual» = system .«squared_residual»;
+  «gradient_norm» = gradientInfNorm system;
+  «weak_point_count» = system .«weak_point_count»;
+  «minimum_point_rcond» = system .«minimum_point_rcond»;
+  «point_step_rms» = rms (sums .squared) n;
+  «point_damping_norm» = sums .«damping_norm»;
+  «predicted_reduction» = predictedReduction system s damping (sums .«damping_norm») .reduction;
+  refusal = none;
+}
+
+-- every number beside a refusal is +0
+unfoldable pub notStepped : Refusal → StepResult
+notStepped r = record {
+  «pose_step» = tabulate 5 (λ i. zero·);
+  cost = zero·;
+  «squared_residual» = zero·;
+  «gradient_norm» = zero·;
+  «weak_point_count» = 0;
+  «minimum_point_rcond» = zero·;
+  «point_step_rms» = zero·;
+  «point_damping_norm» = zero·;
+  «predicted_reduction» = zero·;
+  refusal = r;
+}
+
+unfoldable pub stepped : Plate → StepResult
+stepped p = finished (reducedSystem p) (poseStepOf p) (p .damping) (count p) (sumsTo p (poseStepOf p) (count p))
+
+-- rows 10 and 11, then the step
+unfoldable pub solvedStep : Plate → StepResult
+solvedStep p =
+    cond (isValid (reducedSystem p)) (cond (isNone (solvedOf p .refusal)) (stepped p) (notStepped (of Rows.notSolved))) (notStepped (of Rows.notFactored))
+
+-- rows 1 to 9, the room's length included
+unfoldable pub refused : Plate → ℕ → Refusal
+refused p room = Checks.orElse (Checks.unless (eqb room (3 * count p)) (of Rows.lengths)) (Checks.refused p)
+
+-- rows 1 to 11, then the step
+unfoldable pub step : Plate → ℕ → StepResult
+step p room = cond (isNone (refused p room)) (solvedStep p) (notStepped (refused p room))
+
+-- the room after a call that gives r: all point steps, or what it held before
+unfoldable pub written : Plate → StepResult → List Float → List Float
+written p r room = cond (isNone (r .refusal)) (stepsTo p (poseStepOf p) (count p)) room
+
+-- "Once the system is valid no point step is refused"
+abbrev pub NoneRefused : Plate → Type 0
+NoneRefused p = (i : ℕ) → i < count p → stepAt p (poseStepOf p) i .refusal ≡ none
+
+-- what a call promises: its result, the room, and that no point step of a valid system is refused
+pub record Done (p : Plate) (room : List Float) (r : StepResult) (after : List Float) : Type 0 where
+  pub result : r ≡ step p (length room)
+  pub room-after : after ≡ written p r room
+  pub none-refused : isNone (r .refusal) ≡ true → NoneRefused p

@@ -1,0 +1,84 @@
+// SPDX-FileCopyrightText: 2026 Pierre Moulon and OpenMVG Rust contributors
+// SPDX-License-Identifier: MIT OR Apache-2.0
+
+// One dot of the lent lists: its point, what each view saw of it, and how a view projects it.
+ghost use mathlib.Core.Path.{_≡_};
+ghost use Prim.Native.Nat.{_<_, _≤_, _*_, _+_};
+ghost use lib.ListN.{length};
+ghost use Rattle.optimizer.specs.Plate as Plate;
+use crate::Head;
+use projection::Projected;
+use schur::Dot;
+use schur::LocalLinearization;
+
+pub(crate) fn point_at(points: &[f64], i: usize) -> [f64; 3]
+    requires { ⌜ 3 * i + 2 < length (now points) ⌝ }
+    ensures { λ r. ⌜ r ≡ Plate.triple (now (points .entry)) i ⌝ }
+{
+    [points[3 * i], points[3 * i + 1], points[3 * i + 2]]
+}
+
+pub(crate) fn pair_at(view: &[f64], i: usize) -> [f64; 2]
+    requires { ⌜ 2 * i + 1 < length (now view) ⌝ }
+    ensures { λ r. ⌜ r ≡ Plate.pair (now (view .entry)) i ⌝ }
+{
+    [view[2 * i], view[2 * i + 1]]
+}
+
+// The part of view 1 or 2 that holds the two numbers of a point
+pub(crate) fn observation<'a>(view1: &'a [f64], view2: &'a [f64], view: u32, i: usize) -> &'a [f64]
+    requires { ⌜ (2 * i + 1 < length (now view1)) × (2 * i + 1 < length (now view2)) ⌝ }
+    ensures { λ r. ⌜ now r ≡ Plate.observation (now (view1 .entry)) (now (view2 .entry)) view i ⌝ }
+{
+    if view == 1 {
+        &view1[2 * i..2 * i + 2]
+    } else {
+        &view2[2 * i..2 * i + 2]
+    }
+}
+
+pub(crate) fn dot_at(
+    points: &[f64],
+    view1: &[f64],
+    view2: &[f64],
+    inverse_deviations: &[f64],
+    i: usize,
+) -> Dot
+    requires { ⌜ (3 * i + 2 < length (now points)) × (2 * i + 1 < length (now view1)) × (2 * i + 1 < length (now view2))
+        × (i < length (now «inverse_deviations»)) ⌝ }
+    ensures { λ r. ⌜ r ≡ Plate.dotAt (now (points .entry)) (now (view1 .entry)) (now (view2 .entry)) (now («inverse_deviations» .entry)) i ⌝ }
+{
+    Dot {
+        point: point_at(points, i),
+        view1: pair_at(view1, i),
+        view2: pair_at(view2, i),
+        inverse_deviation: inverse_deviations[i],
+    }
+}
+
+// The block of a dot
+pub(crate) fn block_of(head: Head, dot: Dot) -> LocalLinearization
+    ensures { λ r. ⌜ r ≡ Plate.blockOf head dot ⌝ }
+{
+    let camera1 = head.camera1;
+    let camera2 = head.camera2;
+    let pose = head.pose;
+    schur::linearize_point(camera1, camera2, pose, dot)
+}
+
+// A point as view 1 or 2 sees it
+pub(crate) fn project(head: Head, view: u32, observation: [f64; 2], point: [f64; 3]) -> Projected
+    ensures { λ r. ⌜ r ≡ Plate.project head view observation point ⌝ }
+{
+    let pose = head.pose;
+    let camera1 = head.camera1;
+    let camera2 = head.camera2;
+    let rotation = pose.rotation;
+    let translation = pose.translation;
+    if view == 1 {
+        projection::pixel_projection(camera1, observation, point)
+    } else {
+        let moved = schur::camera_point(schur::rotate(rotation, point), translation);
+        projection::pixel_projection(camera2, observation, moved)
+    }
+}

@@ -1,0 +1,37 @@
+// SPDX-FileCopyrightText: 2026 Pierre Moulon and OpenMVG Rust contributors
+// SPDX-License-Identifier: MIT OR Apache-2.0
+
+// One whole step of the two-view problem over lent memory: kernel/two_view/optimizer.rs.
+mod checks;
+mod dots;
+mod limit;
+mod point_steps;
+mod whole_step;
+
+pub use checks::refused;
+pub use limit::limit_pose_step;
+use projection::PinholeCamera;
+use refusal::Refusal;
+use schur::Pose;
+pub use whole_step::step;
+
+// The two cameras, and how the second one sits
+pub struct Head {
+    pub camera1: PinholeCamera,
+    pub camera2: PinholeCamera,
+    pub pose: Pose,
+}
+
+// What a whole step gives; beside a refusal every number is +0.
+pub struct StepResult {
+    pub pose_step: [f64; 5],
+    pub cost: f64,
+    pub squared_residual: f64,
+    pub gradient_norm: f64,
+    pub weak_point_count: u16,
+    pub minimum_point_rcond: f64,
+    pub point_step_rms: f64,
+    pub point_damping_norm: f64,
+    pub predicted_reduction: f64,
+    pub refusal: Refusal,
+}

@@ -1,0 +1,42 @@
+// SPDX-FileCopyrightText: 2026 Pierre Moulon and OpenMVG Rust contributors
+// SPDX-License-Identifier: MIT OR Apache-2.0
+
+// The step of the pose, limited in length.
+ghost use mathlib.Core.Path.{_≡_};
+ghost use Rattle.optimizer.specs.Step as Step;
+
+// The most that a step turns or moves the second camera
+const MAX_LENGTH: f64 = 0.5;
+
+// `limit_pose_step` at 0.5: where both lengths are NaN the vector passes through.
+pub fn limit_pose_step(x: [f64; 5]) -> [f64; 5]
+    ensures { λ r. ⌜ r ≡ Step.limitPoseStep x ⌝ }
+{
+    let length = step_length(x);
+    if MAX_LENGTH < length {
+        return scaled(x, MAX_LENGTH / length);
+    }
+    x
+}
+
+fn scaled(x: [f64; 5], by: f64) -> [f64; 5]
+    ensures { λ r. ⌜ r ≡ Step.scaled x by ⌝ }
+{
+    [x[0] * by, x[1] * by, x[2] * by, x[3] * by, x[4] * by]
+}
+
+// The longer of the rotation's and the translation's part; each sum begins at −0.
+fn step_length(x: [f64; 5]) -> f64
+    ensures { λ r. ⌜ r ≡ Step.stepLength x ⌝ }
+{
+    let rotation = number::sqrt(-0.0 + x[0] * x[0] + x[1] * x[1] + x[2] * x[2]);
+    let translation = number::sqrt(-0.0 + x[3] * x[3] + x[4] * x[4]);
+    number::max(rotation, translation)
+}
+
+// The limited step of a solution
+pub(crate) fn pose_step(x: [f64; 5]) -> [f64; 5]
+    ensures { λ r. ⌜ r ≡ Step.poseStep x ⌝ }
+{
+    limit_pose_step([-x[0], -x[1], -x[2], -x[3], -x[4]])
+}
