@@ -13,6 +13,7 @@ pub mod generate;
 pub mod optimizer;
 pub mod point_block;
 pub mod projection;
+pub mod record;
 pub mod refused;
 pub mod schur;
 pub mod solver;
