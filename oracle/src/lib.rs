@@ -14,6 +14,7 @@ pub mod optimizer;
 pub mod point_block;
 pub mod projection;
 pub mod record;
+pub mod records;
 pub mod refused;
 pub mod schur;
 pub mod solver;

@@ -1,0 +1,176 @@
+//! Run records from a seed: in form, refused by each row, and out of form.
+
+use crate::generate::{Case, Source, any_plate, plate};
+use crate::record::LONGEST;
+use crate::refused::refused;
+
+/// Where the five fields before the points begin.
+const HEAD: [usize; 5] = [0, 43, 86, 185, 244];
+
+/// Where the first point begins, and the bytes of each.
+const POINTS: usize = 255;
+const POINT: usize = 67;
+
+/// The most points that a record can hold.
+const MOST: usize = (LONGEST - POINTS) / POINT;
+
+/// The record of a plate, whose lengths must belong to one count.
+pub fn record(case: &Case) -> Vec<u8> {
+    let head = &case.head;
+    let mut record = Vec::with_capacity(POINTS + POINT * case.count());
+    push(&mut record, 1, &[&head.cameras[0]]);
+    push(&mut record, 2, &[&head.cameras[1]]);
+    push(&mut record, 3, &[&head.rotation, &head.translation]);
+    push(&mut record, 4, &[&head.basis, &[head.baseline]]);
+    push(&mut record, 5, &[&[case.damping]]);
+    for index in 0..case.count() {
+        let dot = case.dot(index);
+        let last = [dot.inverse_deviation];
+        push(&mut record, 6, &[&dot.point, &dot.view1, &dot.view2, &last]);
+    }
+    record
+}
+
+/// Adds a field.
+fn push(record: &mut Vec<u8>, tag: u8, parts: &[&[f64]]) {
+    let numbers = parts.concat();
+    let [low, high, ..] = (8 * numbers.len()).to_le_bytes();
+    record.extend([tag, low, high]);
+    record.extend(numbers.iter().flat_map(|number| number.to_le_bytes()));
+}
+
+/// Where each field of a record with so many points begins.
+pub fn starts(points: usize) -> Vec<usize> {
+    let points = (0..points).map(|index| POINTS + POINT * index);
+    HEAD.into_iter().chain(points).collect()
+}
+
+/// A record of any sort. Each row that it can be refused by has its share.
+pub fn any_record(source: &mut Source) -> Vec<u8> {
+    match source.below(40) {
+        0..10 => in_form(source),
+        10..28 => by_row(source),
+        28..32 => too_long(source),
+        _ => damaged(source),
+    }
+}
+
+/// A record in form, of a plate that can still be refused.
+fn in_form(source: &mut Source) -> Vec<u8> {
+    let n = match source.below(100) {
+        0 => MOST,
+        1 => 41 + source.below(MOST - 41),
+        2..10 => source.below(5),
+        _ => 5 + source.below(36),
+    };
+    let case = if source.once_in(4) {
+        wild(source, n)
+    } else {
+        any_plate(source, n)
+    };
+    record(&case)
+}
+
+/// A plate in which some numbers, or all, have any exponent and their own sign.
+fn wild(source: &mut Source, n: usize) -> Case {
+    let mut case = plate(source, n);
+    let times = [1, 4, 40][source.below(3)];
+    for place in case.places() {
+        if source.once_in(times) {
+            *place = source.finite().abs().copysign(*place);
+        }
+    }
+    case
+}
+
+/// Refused by a row from 3 to 9; in half of the cases a later one holds too.
+fn by_row(source: &mut Source) -> Vec<u8> {
+    let first = 3 + source.below(7);
+    let second = first + source.below(10 - first);
+    let rows = if source.once_in(2) {
+        vec![first as u32]
+    } else {
+        vec![first as u32, second as u32]
+    };
+    record(&refused(source, &rows).expect("no plate with row 2"))
+}
+
+/// Longer than a record may be; most are in form but for that.
+fn too_long(source: &mut Source) -> Vec<u8> {
+    let points = MOST + source.below(2);
+    let mut record = record(&any_plate(source, points));
+    let least = usize::from(points == MOST);
+    let more = [least, POINT, 1 + source.below(5000)][source.below(3)];
+    record.resize(record.len() + more, source.next_bits() as u8);
+    if source.once_in(4) {
+        record.fill(0);
+    }
+    record
+}
+
+/// A record with one or two faults of form. Some stay in form all the same,
+/// such as one that loses a point.
+fn damaged(source: &mut Source) -> Vec<u8> {
+    let n = match source.below(40) {
+        0 => MOST,
+        1..10 => source.below(5),
+        _ => 5 + source.below(8),
+    };
+    let mut fields = split(&record(&plate(source, n)), n);
+    let fault = source.below(7);
+    let place = source.below(fields.len());
+    let other = source.below(fields.len());
+    match fault {
+        0 | 1 => break_start(source, &mut fields[place]),
+        2 => fields.swap(place, other),
+        3 => fields.insert(other, fields[place].clone()),
+        4 => drop(fields.remove(place)),
+        5 => insert(source, &mut fields[place]),
+        _ => {}
+    }
+    let mut record = fields.concat();
+    if fault == 6 || source.once_in(8) {
+        cut(source, &mut record);
+    }
+    record
+}
+
+/// The fields of a record with so many points.
+fn split(record: &[u8], points: usize) -> Vec<Vec<u8>> {
+    let mut starts = starts(points);
+    starts.push(record.len());
+    let fields = starts
+        .windows(2)
+        .map(|ends| record[ends[0]..ends[1]].to_vec());
+    fields.collect()
+}
+
+/// Changes the tag or one of the two bytes of the length.
+fn break_start(source: &mut Source, field: &mut [u8]) {
+    let byte = &mut field[source.below(3)];
+    *byte = match source.below(4) {
+        0 => byte.wrapping_add(1),
+        1 => byte.wrapping_sub(1),
+        2 => *byte ^ 1 << source.below(8),
+        _ => source.next_bits() as u8,
+    };
+}
+
+/// Puts up to nine bytes somewhere into a field, in front of it or behind it.
+fn insert(source: &mut Source, field: &mut Vec<u8>) {
+    let place = [0, field.len(), source.below(field.len())][source.below(3)];
+    for _ in 0..=source.below(9) {
+        field.insert(place, source.next_bits() as u8);
+    }
+}
+
+/// Cuts a record off, often within three bytes of where a field begins.
+fn cut(source: &mut Source, record: &mut Vec<u8>) {
+    let place = if source.once_in(2) {
+        source.below(record.len() + 1)
+    } else {
+        let starts = starts(record.len().saturating_sub(POINTS) / POINT);
+        starts[source.below(starts.len())] + source.below(4)
+    };
+    record.truncate(place);
+}
