@@ -6,7 +6,7 @@ use oracle::generate::Source;
 use pixel_step::Refusal;
 
 use crate::input::Input;
-use crate::memory::Lent;
+use crate::memory::{Lent, Rooms};
 
 /// How an argument or an answer is handed over.
 #[derive(Clone, Copy, Debug, PartialEq, Eq)]
@@ -22,10 +22,25 @@ pub enum Kind {
     Bytes,
     /// Lent numbers that the call writes.
     Room,
+    /// Lent bytes that the call writes, one an entry of the input.
+    #[allow(dead_code, reason = "for the run record")]
+    ByteRoom,
     /// A number that the call returns.
     Returned,
     /// A whole number that the call returns; compared with all its bits.
     ReturnedWord,
+}
+
+impl Kind {
+    /// An entry is a byte.
+    pub fn is_bytes(self) -> bool {
+        matches!(self, Self::Bytes | Self::ByteRoom)
+    }
+
+    /// An entry that is written is a number: two NaN are then the same.
+    pub fn gives_numbers(self) -> bool {
+        matches!(self, Self::Room | Self::Returned)
+    }
 }
 
 /// One argument, or the value that comes back.
@@ -44,12 +59,19 @@ impl Argument {
 
     /// The call puts its result there.
     pub fn is_written(&self) -> bool {
-        matches!(self.kind, Kind::Room | Kind::Returned | Kind::ReturnedWord)
+        matches!(
+            self.kind,
+            Kind::Room | Kind::ByteRoom | Kind::Returned | Kind::ReturnedWord
+        )
     }
 
     /// It is lent with a length that can be wrong.
     pub fn has_one_length(&self) -> bool {
-        matches!(self.kind, Kind::Numbers | Kind::Bytes | Kind::Room) && self.length.is_some()
+        let lent = matches!(
+            self.kind,
+            Kind::Numbers | Kind::Bytes | Kind::Room | Kind::ByteRoom
+        );
+        lent && self.length.is_some()
     }
 }
 
@@ -141,8 +163,7 @@ impl Answer {
 
 /// Equal bits, or two NaN where the figures are numbers.
 fn same_figure(kind: Kind, left: u64, right: u64) -> bool {
-    left == right
-        || kind != Kind::ReturnedWord && flat::same(f64::from_bits(left), f64::from_bits(right))
+    left == right || kind.gives_numbers() && flat::same(f64::from_bits(left), f64::from_bits(right))
 }
 
 /// Inputs that each run takes before the seeded ones.
@@ -163,7 +184,7 @@ pub struct Function {
     pub walk: Option<Walk>,
     pub generate: fn(&mut Source) -> Input,
     /// The port's call: 0, or a refusal's code.
-    pub port: fn(&Lent<'_>, &mut [&mut [f64]]) -> u64,
+    pub port: fn(&Lent<'_>, &mut Rooms<'_>) -> u64,
     /// The original's answer, with document 01's rule for unlike zeros.
     pub oracle: fn(&Input) -> Answer,
     /// The original's answer as it ran, where that rule can make a difference.
@@ -212,7 +233,7 @@ impl Function {
 }
 
 /// Puts a returned value where the driver reads it; the answer is 0.
-pub fn give(rooms: &mut [&mut [f64]], value: f64) -> u64 {
+pub fn give(rooms: &mut Rooms<'_>, value: f64) -> u64 {
     rooms[0][0] = value;
     0
 }

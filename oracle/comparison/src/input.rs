@@ -7,6 +7,14 @@ use crate::function::{Argument, Kind};
 /// What room is filled with before a call: a finite number that no case has.
 pub const FILL: u64 = 0xC0DE_C0DE_C0DE_C0DE;
 
+/// An entry of room before a call; a byte of it is no text.
+pub const fn fill(kind: Kind) -> u64 {
+    match kind {
+        Kind::ByteRoom => FILL & 0xFF,
+        _ => FILL,
+    }
+}
+
 /// How many entries of a long argument are printed.
 const SHOWN: usize = 32;
 
@@ -26,7 +34,8 @@ impl Input {
     pub fn add_rooms(&mut self, arguments: &[Argument]) {
         for argument in arguments.iter().skip(self.0.len()) {
             assert!(argument.is_written(), "{} is not given", argument.name);
-            self.0.push(vec![FILL; argument.length.unwrap_or(0)]);
+            let entry = fill(argument.kind);
+            self.0.push(vec![entry; argument.length.unwrap_or(0)]);
         }
     }
 
@@ -46,8 +55,19 @@ impl Input {
     }
 }
 
+/// Bytes, one an entry.
+pub fn bytes(entries: &[u64]) -> Vec<u8> {
+    entries.iter().map(|&entry| entry as u8).collect()
+}
+
 /// Patterns with single spaces: sixteen capital digits, or two for a byte.
+/// Written bytes are text, and the fill behind it is left out.
 pub fn digits(kind: Kind, entries: &[u64]) -> String {
+    if kind == Kind::ByteRoom {
+        let end = entries.iter().rposition(|&entry| entry != fill(kind));
+        let text = bytes(&entries[..end.map_or(0, |last| last + 1)]);
+        return format!("\"{}\"", text.escape_ascii());
+    }
     let width = if kind == Kind::Bytes { 2 } else { 16 };
     let texts: Vec<_> = entries.iter().map(|e| format!("{e:0width$X}")).collect();
     texts.join(" ")

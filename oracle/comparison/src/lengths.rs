@@ -1,7 +1,7 @@
 //! Inputs with lengths that do not fit, from one that has the right ones.
 
 use crate::function::Function;
-use crate::input::{FILL, Input};
+use crate::input::{Input, fill};
 
 /// More than any call's room has.
 const HUGE: usize = 10_000;
@@ -41,8 +41,9 @@ pub fn wrong(function: &Function, input: &Input) -> Vec<Input> {
 
 /// What a longer argument ends in.
 fn filler(function: &Function, place: usize) -> u64 {
-    if function.arguments[place].is_written() {
-        FILL
+    let argument = function.arguments[place];
+    if argument.is_written() {
+        fill(argument.kind)
     } else {
         1.0_f64.to_bits()
     }

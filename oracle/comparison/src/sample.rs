@@ -7,7 +7,7 @@ use std::path::Path;
 
 use oracle::flat;
 
-use crate::function::{Answer, Function, Kind};
+use crate::function::{Answer, Function};
 use crate::input::{Input, digits};
 use crate::run::text;
 use crate::tally::Tally;
@@ -138,7 +138,7 @@ fn one_nan(function: &Function, answer: &Answer) -> Answer {
     let mut lists = lists.clone();
     let written = function.arguments.iter().filter(|a| a.is_written());
     for (argument, entries) in written.zip(&mut lists) {
-        if argument.kind != Kind::ReturnedWord {
+        if argument.kind.gives_numbers() {
             entries
                 .iter_mut()
                 .for_each(|e| *e = flat::bits(f64::from_bits(*e)));
@@ -165,10 +165,15 @@ mod tests {
     }
 
     /// Capital patterns of sixteen digits and single spaces; as many as the
-    /// arguments have; every NaN of an answer in one pattern.
+    /// arguments have, if their lengths are not open; every NaN of an answer in
+    /// one pattern.
     #[test]
     fn a_line_has_the_form() {
-        for function in ALL {
+        let of_numbers = |function: &&&Function| {
+            let mut lengths = function.arguments.iter().map(|a| a.length);
+            lengths.all(|length| length.is_some())
+        };
+        for function in ALL.iter().filter(of_numbers) {
             let (lines, _) = collect(function, 2, 40).expect("a full sample");
             for line in &lines {
                 let (given, answer) = line.trim_end().split_once(" = ").expect("one sign");

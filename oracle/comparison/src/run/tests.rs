@@ -2,7 +2,7 @@
 
 use super::*;
 use crate::function::{Kind, lent, number, open, room};
-use crate::memory::Lent;
+use crate::memory::{Lent, Rooms};
 
 /// The second of two numbers less a value; row 9 where that is below zero.
 const SOUND: Function = Function {
@@ -19,7 +19,7 @@ const SOUND: Function = Function {
     plain: None,
 };
 
-fn sound(lent: &Lent<'_>, rooms: &mut [&mut [f64]]) -> u64 {
+fn sound(lent: &Lent<'_>, rooms: &mut Rooms<'_>) -> u64 {
     let (list, value) = (lent.numbers(0), lent.number(1));
     if list.len() != 2 || rooms[0].len() != 1 {
         return 1;
