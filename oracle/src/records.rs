@@ -63,10 +63,10 @@ fn in_form(source: &mut Source) -> Vec<u8> {
         2..10 => source.below(5),
         _ => 5 + source.below(36),
     };
-    let case = if source.once_in(4) {
-        wild(source, n)
-    } else {
-        any_plate(source, n)
+    let case = match source.below(4) {
+        0 => wild(source, n),
+        1 => far_dots(source, n),
+        _ => any_plate(source, n),
     };
     record(&case)
 }
@@ -78,6 +78,20 @@ fn wild(source: &mut Source, n: usize) -> Case {
     for place in case.places() {
         if source.once_in(times) {
             *place = source.finite().abs().copysign(*place);
+        }
+    }
+    case
+}
+
+/// A plate at damping zero, with dots so far away that some are weak and some
+/// do not factor.
+fn far_dots(source: &mut Source, n: usize) -> Case {
+    let mut case = plate(source, n);
+    case.damping = if source.once_in(2) { 0.0 } else { -0.0 };
+    for point in case.points.as_chunks_mut::<3>().0 {
+        if source.once_in(2) {
+            let factor = (1_u64 << (16 + source.below(7))) as f64;
+            *point = point.map(|value| value * factor);
         }
     }
     case

@@ -4,7 +4,7 @@
 use std::collections::{BTreeMap, BTreeSet};
 use std::fs;
 use std::path::{Path, PathBuf};
-use std::process::Command;
+use std::process::{Command, Output};
 
 use oracle::generate::{Case, Source, any_plate, plate};
 use oracle::optimizer::{Refusal, reduced_system, whole_step};
@@ -16,13 +16,17 @@ fn folder() -> PathBuf {
     Path::new(env!("CARGO_MANIFEST_DIR")).join("..")
 }
 
-/// What tools/record makes of a file.
-fn tool(command: &str, file: &Path) -> Vec<u8> {
-    let output = Command::new(folder().join("tools/record"))
+fn run_tool(command: &str, file: &Path) -> Output {
+    Command::new(folder().join("tools/record"))
         .arg(command)
         .arg(file)
         .output()
-        .expect("python3 runs tools/record");
+        .expect("python3 runs tools/record")
+}
+
+/// What tools/record makes of a file.
+fn tool(command: &str, file: &Path) -> Vec<u8> {
+    let output = run_tool(command, file);
     assert!(output.status.success(), "{}", file.display());
     output.stdout
 }
@@ -215,14 +219,22 @@ fn the_first_of_two_rows_is_given() {
 }
 
 /// Lists, and each row that a record can meet, are at least a twentieth of the
-/// seeded records; row 15 breaks every one of the first fields.
+/// seeded records; each letter is in a fiftieth of them; row 15 breaks every one
+/// of the first fields.
 #[test]
 fn seeded_records() {
     let mut source = Source::new(11);
     let (mut counts, mut broken) = (BTreeMap::new(), BTreeSet::new());
+    let mut letters = BTreeMap::new();
     for _ in 0..4000 {
         let number = match lines(&any_record(&mut source)) {
-            Ok(_) => 0,
+            Ok(list) => {
+                let seen: BTreeSet<_> = list.lines().map(shown).collect();
+                for kind in seen {
+                    *letters.entry(kind).or_insert(0) += 1;
+                }
+                0
+            }
             Err(Refusal { number, index, .. }) => {
                 broken.extend((number == 15).then_some(index));
                 number
@@ -233,22 +245,76 @@ fn seeded_records() {
     let rows: Vec<_> = counts.keys().copied().collect();
     assert_eq!(rows, [0, 3, 4, 5, 6, 7, 8, 9, 14, 15]);
     assert!(counts.values().all(|&count| count >= 200), "{counts:?}");
+    assert_eq!(letters.len(), 8, "{letters:?}");
+    assert!(letters.values().all(|&count| count >= 80), "{letters:?}");
     assert!(starts(3).iter().all(|start| broken.contains(start)));
 }
 
 /// tools/record turns every record in form into text and back, byte for byte.
 #[test]
 fn text_and_back() {
-    let folder = Path::new(env!("CARGO_TARGET_TMPDIR"));
     let mut source = Source::new(12);
     for number in [0, 6, 512] {
         let mut case = any_plate(&mut source, number);
         case.places().into_iter().for_each(|v| *v = source.mixed());
         let bytes = record(&case);
-        let path = folder.join(format!("{number}.record"));
-        fs::write(&path, &bytes).expect("written");
-        let plate = path.with_extension("plate");
-        fs::write(&plate, tool("unpack", &path)).expect("written");
-        assert!(tool("pack", &plate) == bytes, "{}", path.display());
+        let text = tool("unpack", &file(&format!("{number}.record"), &bytes));
+        let plate = file(&format!("{number}.plate"), &text);
+        assert!(tool("pack", &plate) == bytes, "{}", plate.display());
     }
+}
+
+/// A bad line, or the byte where a broken field begins, is named; status 2.
+#[test]
+fn bad_files_are_named() {
+    let bytes = record(&good(5));
+    let text = tool("unpack", &file("good.record", &bytes));
+    let good = String::from_utf8(text).expect("text");
+    let texts = [
+        (
+            good.replace("camera2", "camera3"),
+            "2: expected `camera2`, found `camera3`",
+        ),
+        (
+            good.replace("damping 0.0", "damping"),
+            "expected 1 number after `damping`, found 0",
+        ),
+        (
+            good.replace("damping 0.0", "# one\ndamping nan"),
+            ":8: expected a finite decimal",
+        ),
+        (
+            good.replacen("dot", "spot", 1),
+            "8: expected `dot`, found `spot`",
+        ),
+    ];
+    for (number, (text, message)) in texts.iter().enumerate() {
+        let path = file(&format!("bad-{number}.plate"), text.as_bytes());
+        refuses("pack", &path, message);
+    }
+    refuses(
+        "unpack",
+        &file("cut.record", &bytes[..400]),
+        "byte 389: expected",
+    );
+    refuses(
+        "unpack",
+        &file("short.record", &bytes[..86]),
+        "byte 86: expected",
+    );
+}
+
+/// A file for a test.
+fn file(name: &str, bytes: &[u8]) -> PathBuf {
+    let path = Path::new(env!("CARGO_TARGET_TMPDIR")).join(name);
+    fs::write(&path, bytes).expect("written");
+    path
+}
+
+fn refuses(command: &str, file: &Path, message: &str) {
+    let output = run_tool(command, file);
+    let given = String::from_utf8(output.stderr).expect("text");
+    assert!(given.starts_with(&*file.to_string_lossy()), "{given}");
+    assert!(given.contains(message), "{given}");
+    assert_eq!((output.status.code(), output.stdout), (Some(2), Vec::new()));
 }
