@@ -29,6 +29,10 @@ functions! {
     solve_positive_definite
 }
 
+// Until the port has the call.
+#[cfg(test)]
+mod write_list;
+
 #[cfg(test)]
 mod tests {
     use super::*;

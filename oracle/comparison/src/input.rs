@@ -15,8 +15,10 @@ pub const fn fill(kind: Kind) -> u64 {
     }
 }
 
-/// How many entries of a long argument are printed.
+/// How many entries of a long argument are printed: numbers, and bytes, which
+/// are enough for a run record of eleven points.
 const SHOWN: usize = 32;
+const SHOWN_BYTES: usize = 1024;
 
 /// One list of entries for each argument. An entry is a pattern of 64 bits, or
 /// a byte.
@@ -88,7 +90,12 @@ impl fmt::Display for Shown<'_> {
                 write!(f, " (length {})", entries.len())?;
             }
             if !argument.is_written() && !entries.is_empty() {
-                let shown = &entries[..entries.len().min(SHOWN)];
+                let most = if argument.kind.is_bytes() {
+                    SHOWN_BYTES
+                } else {
+                    SHOWN
+                };
+                let shown = &entries[..entries.len().min(most)];
                 write!(f, " {}", digits(argument.kind, shown))?;
                 f.write_str(if shown.len() < entries.len() {
                     " ..."

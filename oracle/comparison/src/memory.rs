@@ -4,7 +4,7 @@ use std::hint::black_box;
 use std::ops::{Index, IndexMut};
 use std::slice::{from_raw_parts, from_raw_parts_mut};
 
-use crate::function::{Argument, Kind};
+use crate::function::Argument;
 use crate::input::Input;
 
 /// Stands around each argument: a finite number that no case has.
@@ -225,7 +225,7 @@ impl Memory {
 #[cfg(test)]
 mod tests {
     use super::*;
-    use crate::function::{lent, number, open, room};
+    use crate::function::{Kind, lent, number, open, room};
     use crate::input::{FILL, fill};
 
     const ARGUMENTS: [Argument; 5] = [

@@ -1,5 +1,7 @@
 //! The smallest input, by greedy steps, that still shows a difference.
 
+use std::ops::Range;
+
 use crate::check::{Difference, Expected, check};
 use crate::function::{Function, Kind};
 use crate::input::Input;
@@ -10,6 +12,13 @@ const ONE: u64 = 1023 << 52;
 const TWO: u64 = 1024 << 52;
 const NAN: u64 = 0x7FF8 << 48;
 
+/// The fields of a run record before its points, and the bytes of a point.
+const HEAD: usize = 255;
+const POINT: usize = 67;
+
+/// So many entries are tried, over all inputs, before what was found has to do.
+const WORK: usize = 200_000_000;
+
 /// Takes simpler entries for as long as the difference stays.
 pub fn shrink(
     function: &Function,
@@ -18,35 +27,28 @@ pub fn shrink(
     difference: Difference,
 ) -> (Input, Difference) {
     let (mut input, mut difference) = (input, difference);
-    while let Some(smaller) = step(function, expected, &input, &difference) {
+    let mut work = WORK;
+    while let Some(smaller) = step(function, expected, &input, &difference, &mut work) {
         (input, difference) = smaller;
     }
     (input, difference)
 }
 
-/// The first simpler input that shows a difference of the same kind.
+/// The first simpler input that shows a difference of the same kind; none once
+/// the work is used up.
 fn step(
     function: &Function,
     expected: Expected,
     input: &Input,
     difference: &Difference,
+    work: &mut usize,
 ) -> Option<(Input, Difference)> {
     for (place, argument) in function.arguments.iter().enumerate() {
         if argument.is_written() {
             continue;
         }
-        let entries = &input.0[place];
-        let together = simpler_together(argument.kind, entries);
-        let alone = (0..entries.len()).flat_map(|index| {
-            simpler(argument.kind, entries[index])
-                .into_iter()
-                .map(move |entry| {
-                    let mut entries = entries.clone();
-                    entries[index] = entry;
-                    entries
-                })
-        });
-        for entries in together.into_iter().chain(alone) {
+        for entries in simpler_lists(argument.kind, &input.0[place]) {
+            *work = work.checked_sub(entries.len())?;
             let mut trial = input.clone();
             trial.0[place] = entries;
             let answer = expected.answer(function, &trial);
@@ -57,6 +59,38 @@ fn step(
         }
     }
     None
+}
+
+/// Shorter or simpler lists in the place of this one, one after the other.
+fn simpler_lists(kind: Kind, entries: &[u64]) -> impl Iterator<Item = Vec<u64>> {
+    let shorter = spans(kind, entries.len())
+        .into_iter()
+        .map(|span| [&entries[..span.start], &entries[span.end..]].concat());
+    let together = simpler_together(kind, entries);
+    let alone = (0..entries.len()).flat_map(move |index| {
+        simpler(kind, entries[index]).into_iter().map(move |entry| {
+            let mut entries = entries.to_vec();
+            entries[index] = entry;
+            entries
+        })
+    });
+    shorter.chain(together).chain(alone)
+}
+
+/// What can be left out of lent bytes: points of a run record, many at once
+/// first, then the second half or the last byte.
+fn spans(kind: Kind, length: usize) -> Vec<Range<usize>> {
+    if kind != Kind::Bytes || length == 0 {
+        return Vec::new();
+    }
+    let mut spans = Vec::new();
+    for points in (0..10).rev().map(|power| POINT << power) {
+        let starts = (HEAD..length).step_by(points);
+        let ends = starts.map(|start| start..start + points);
+        spans.extend(ends.filter(|span| span.end <= length));
+    }
+    spans.extend([length / 2..length, length - 1..length]);
+    spans
 }
 
 /// A whole argument made simpler, where its entries only count together: all
