@@ -1,5 +1,4 @@
 -- Laws of the checks, the sums over all points, and what holds of the point steps.
-pub mod Scans
 pub mod Parts
 pub mod Passes
 pub mod PointSteps

@@ -15,8 +15,8 @@ use lib.Ieee.{Float, nan}
 use Rattle.number.specs.Vectors.{_!_}
 use Rattle.refusal.specs.Refused.{isNone}
 use Rattle.projection.specs.declared.Projected.{Projected}
-use Rattle.optimizer.specs.declared.Head.{Head}
-use Rattle.optimizer.specs.Plate.{triple, pair, observation, project}
+use Rattle.optimizer.specs.declared.Rig.{Rig}
+use Rattle.optimizer.specs.Problem.{triple, pair, observation, project}
 
 -- by quotient and remainder
 pub multiple : (l e n : ℕ) → 0 < e → (eqb (l / e) n && eqb (l % e) 0) ≡ eqb l (e * n)
@@ -80,7 +80,7 @@ module _ (view1 view2 : List Float) (view i : ℕ) (s : List Float) (e : s ≡ o
       by false = refl
 
   -- what the test of a view says, from the projection of the two numbers seen
-  pub view-test : (h : Head) (points point : List Float) (p : Projected) (b : Bool) → point ≡ triple points i → p ≡ project h view (s ! 0 ∷ s ! 1 ∷ []) point
+  pub view-test : (h : Rig) (points point : List Float) (p : Projected) (b : Bool) → point ≡ triple points i → p ≡ project h view (s ! 0 ∷ s ! 1 ∷ []) point
       → b ≡ isNone (p .refusal) → b ≡ isNone (project h view (observation view1 view2 view i) (triple points i) .refusal)
   view-test h points point p b f g k =
       k

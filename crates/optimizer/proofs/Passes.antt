@@ -20,24 +20,24 @@ use Rattle.schur.specs.declared.linearize.Dot.{Dot}
 use Rattle.schur.specs.declared.point_step.PointStep.{PointStep}
 use Rattle.schur.specs.declared.system.ReducedSystem.{ReducedSystem}
 use Rattle.schur.specs.declared.system.Added.{Added}
-use Rattle.optimizer.specs.Plate.{Plate, count, dotAt, blockOf}
+use Rattle.optimizer.specs.Problem.{Problem, count, dotAt, blockOf}
 use Rattle.optimizer.specs.Step.{systemTo, reducedSystem, pointStepOf, stepAt, stepsTo, squaredNorm, sumsTo}
 
-abbrev dot : Plate → ℕ → Dot
+abbrev dot : Problem → ℕ → Dot
 dot p i = dotAt (p .points) (p .view1) (p .view2) (p .deviations) i
 
 -- ---- the system
 
-pub system-none : (p : Plate) (s : ReducedSystem) → s ≡ newSystem → s ≡ systemTo p 0
+pub system-none : (p : Problem) (s : ReducedSystem) → s ≡ newSystem → s ≡ systemTo p 0
 unfolding systemTo
 system-none p s e = e
 
-pub system-next : (p : Plate) (i : ℕ) (s : ReducedSystem) (d : Dot) (b : LocalLinearization) (a : Added) → s ≡ systemTo p i → d ≡ dot p i → b ≡ blockOf (p .head) d
+pub system-next : (p : Problem) (i : ℕ) (s : ReducedSystem) (d : Dot) (b : LocalLinearization) (a : Added) → s ≡ systemTo p i → d ≡ dot p i → b ≡ blockOf (p .rig) d
     → a ≡ add s b (p .damping) → a .system ≡ systemTo p (i + 1)
 unfolding systemTo
 system-next p i s d b a e f g k = rw (add-one i, k, g, f, e) refl
 
-pub system-all : (p : Plate) (i : ℕ) (s : ReducedSystem) (a : Added) → s ≡ systemTo p i → i ≡ count p → a ≡ finishDamping s (p .damping) → a .system ≡ reducedSystem p
+pub system-all : (p : Problem) (i : ℕ) (s : ReducedSystem) (a : Added) → s ≡ systemTo p i → i ≡ count p → a ≡ finishDamping s (p .damping) → a .system ≡ reducedSystem p
 unfolding reducedSystem
 system-all p i s a e f g = rw (g, e, f) refl
 
@@ -63,13 +63,13 @@ pub room-length : (room : List Float) (i : ℕ) (x : List Float) → length (set
 room-length room i x =
     length-set (set (set room (3 * i) (x ! 0)) (3 * i + 1) (x ! 1)) (3 * i + 2) (x ! 2) ∙ length-set (set room (3 * i) (x ! 0)) (3 * i + 1) (x ! 1) ∙ length-set room (3 * i) (x ! 0)
 
-module _ (p : Plate) (s : List Float) where
-  pub stepped-at : (i : ℕ) (d : Dot) (x : PointStep) → d ≡ dot p i → x ≡ pointStepOf (p .head) d (p .damping) s → x ≡ stepAt p s i
-  stepped-at i d x e f = f ∙ ap (λ (t : Dot). pointStepOf (p .head) t (p .damping) s) e
+module _ (p : Problem) (s : List Float) where
+  pub stepped-at : (i : ℕ) (d : Dot) (x : PointStep) → d ≡ dot p i → x ≡ pointStepOf (p .rig) d (p .damping) s → x ≡ stepAt p s i
+  stepped-at i d x e f = f ∙ ap (λ (t : Dot). pointStepOf (p .rig) t (p .damping) s) e
 
   step-three : (i : ℕ) → length (stepAt p s i .step) ≡ 3
   unfolding pointStepOf
-  step-three i = step-length (blockOf (p .head) (dot p i)) (p .damping) s
+  step-three i = step-length (blockOf (p .rig) (dot p i)) (p .damping) s
 
   pub steps-length : (n : ℕ) → length (stepsTo p s n) ≡ 3 * n
   unfolding stepsTo

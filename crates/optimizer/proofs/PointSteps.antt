@@ -19,28 +19,28 @@ use Rattle.schur.specs.Calls.{Inputs, Call, atDamping, after, factors, blocksIn
 use Rattle.schur.specs.declared.linearize.LocalLinearization.{LocalLinearization}
 use Rattle.schur.specs.declared.system.ReducedSystem.{ReducedSystem}
 use Rattle.schur.proofs.Claim.{claim}
-use Rattle.optimizer.specs.Plate.{Plate, count, dotAt, blockOf, blockAt}
+use Rattle.optimizer.specs.Problem.{Problem, count, dotAt, blockOf, blockAt}
 use Rattle.optimizer.specs.Step.{systemTo, reducedSystem, pointStepOf, stepAt}
 
--- ---- the plate's blocks as calls of `add`, from an index on
+-- ---- the problem's blocks as calls of `add`, from an index on
 
-abbrev inputs : Plate → ℕ → Inputs
-inputs p i = record { camera1 = p .head .camera1; camera2 = p .head .camera2; pose = p .head .pose; dot = dotAt (p .points) (p .view1) (p .view2) (p .deviations) i }
+abbrev inputs : Problem → ℕ → Inputs
+inputs p i = record { camera1 = p .rig .camera1; camera2 = p .rig .camera2; pose = p .rig .pose; dot = dotAt (p .points) (p .view1) (p .view2) (p .deviations) i }
 
-abbrev calls : Plate → ℕ → ℕ → List Call
+abbrev calls : Problem → ℕ → ℕ → List Call
 calls p i zero = []
 calls p i (suc n) = atDamping (inputs p i) ∷ calls p (suc i) n
 
-abbrev blocks : Plate → ℕ → ℕ → List LocalLinearization
+abbrev blocks : Problem → ℕ → ℕ → List LocalLinearization
 blocks p i zero = []
 blocks p i (suc n) = blockAt p i ∷ blocks p (suc i) n
 
-after-calls : (p : Plate) (i n : ℕ) → after (p .damping) (systemTo p i) (calls p i n) ≡ systemTo p (i + n)
+after-calls : (p : Problem) (i n : ℕ) → after (p .damping) (systemTo p i) (calls p i n) ≡ systemTo p (i + n)
 unfolding systemTo blockOf
 after-calls p i zero = ap (λ (k : ℕ). systemTo p k) (sym (add-zero i))
 after-calls p i (suc n) = after-calls p (suc i) n ∙ ap (λ (k : ℕ). systemTo p k) (suc-add i n ∙ sym (add-suc i n))
 
-all-taken : (p : Plate) (m i n : ℕ) → m + n ≤ 65535 → blocksIn m (calls p i n) ≡ blocks p i n
+all-taken : (p : Problem) (m i n : ℕ) → m + n ≤ 65535 → blocksIn m (calls p i n) ≡ blocks p i n
 unfolding blockOf
 all-taken p m i zero h = refl
 all-taken p m i (suc n) h =
@@ -52,7 +52,7 @@ and-parts : (x y : Bool) → (x && y) ≡ true → (x ≡ true) × (y ≡ true)
 and-parts true y e = (refl, e)
 and-parts false y e = absurd (true≢false (sym e))
 
-each : (p : Plate) (good : LocalLinearization → Bool) (i n j : ℕ) → every good (blocks p i n) ≡ true → j < n → good (blockAt p (i + j)) ≡ true
+each : (p : Problem) (good : LocalLinearization → Bool) (i n j : ℕ) → every good (blocks p i n) ≡ true → j < n → good (blockAt p (i + j)) ≡ true
 each p good i zero j e h = absurd (omega arith)
 each p good i (suc n) zero e h = ap (λ (k : ℕ). good (blockAt p k)) (add-zero i) ∙ and-parts (good (blockAt p i)) (every good (blocks p (suc i) n)) e .0
 each p good i (suc n) (suc j) e h =
@@ -73,8 +73,8 @@ steps : (b : LocalLinearization) (d : Float) (s : List Float) → T (goodDamping
 unfolding pointStep stepped factors
 steps b d s g e = rw (is-true (goodDamping d) g, sym (lone-factors (b .«point_hessian») d g) ∙ e) refl
 
--- every block of a plate that has a valid system factors
-module _ (p : Plate) (good : T (goodDamping (p .damping))) (h : count p ≤ 65535) (valid : isValid (reducedSystem p) ≡ true) where
+-- every block of a problem that has a valid system factors
+module _ (p : Problem) (good : T (goodDamping (p .damping))) (h : count p ≤ 65535) (valid : isValid (reducedSystem p) ≡ true) where
   all-factor : every (factors (p .damping)) (blocks p 0 (count p)) ≡ true
   unfolding reducedSystem systemTo
   all-factor =

@@ -8,7 +8,8 @@ use lib.Dec.{T, eqb, leb}
 use lib.ListN.{length}
 use lib.Ieee.{Float}
 use Rattle.refusal.specs.Rows as Rows
-use Rattle.refusal.specs.Refused.{of, isNone}
+use Rattle.refusal.specs.First.{unless, orElse}
+use Rattle.refusal.specs.Refused.{of, none, isNone}
 use Rattle.refusal.specs.declared.Refusal.{Refusal}
 use Rattle.point_block.specs.Lone.{goodDamping}
 use Rattle.solver.specs.Solver.{solvePositiveDefinite}
@@ -17,15 +18,15 @@ use Rattle.schur.specs.Model.{isValid}
 use Rattle.schur.specs.declared.system.ReducedSystem.{ReducedSystem}
 use Rattle.optimizer.specs.declared.StepResult.{StepResult}
 use Rattle.optimizer.specs.declared.point_steps.Sums.{Sums}
-use Rattle.optimizer.specs.Plate.{Plate, count}
+use Rattle.optimizer.specs.Problem.{Problem, count}
 use Rattle.optimizer.specs.Checks as Checks
-use Rattle.optimizer.specs.Step.{reducedSystem, poseStep, solvedOf, poseStepOf, stepsTo, sumsTo, finished, notStepped, stepped, solvedStep, refused, step, written, Done}
-use Rattle.optimizer.proofs.Scans.{stop-unless, pass-unless, row-refuses}
+use Rattle.optimizer.specs.Step.{reducedSystem, noSystem, reduced, poseStep, solvedOf, poseStepOf, stepsTo, sumsTo, finished, notStepped, stepped, solvedStep, refused, step, written, Done}
+use Rattle.refusal.proofs.Scans.{stop-unless, pass-unless, row-refuses}
 use Rattle.optimizer.proofs.Parts.{all-fit}
 use Rattle.optimizer.proofs.PointSteps.{no-step-refused}
 
 -- rows 10 and 11, and the step
-module _ (p : Plate) (room : List Float) (r : StepResult) (system : ReducedSystem) (e : system ≡ reducedSystem p) (valid : Bool) (f : valid ≡ isValid system) where
+module _ (p : Problem) (room : List Float) (r : StepResult) (system : ReducedSystem) (e : system ≡ reducedSystem p) (valid : Bool) (f : valid ≡ isValid system) where
   abbrev Solves : List Float → Type 0
   Solves after = (r ≡ solvedStep p) × (after ≡ written p r room)
 
@@ -67,36 +68,27 @@ module _ (p : Plate) (room : List Float) (r : StepResult) (system : ReducedSyste
 
 -- ---- what a step that is not refused says of the checks before it
 
-after-none : (x s : Refusal) → isNone (Checks.orElse x s) ≡ true → (isNone x ≡ true) × (isNone s ≡ true)
+after-none : (x s : Refusal) → isNone (orElse x s) ≡ true → (isNone x ≡ true) × (isNone s ≡ true)
 after-none x s e = by (isNone x) refl e
   where
     by : (b : Bool) → isNone x ≡ b → isNone (cond b s x) ≡ true → (isNone x ≡ true) × (isNone s ≡ true)
     by true q h = (q, h)
     by false q h = absurd (true≢false (sym h ∙ q))
 
-held : (good : Bool) (x : Refusal) → isNone x ≡ false → isNone (Checks.unless good x) ≡ true → good ≡ true
+held : (good : Bool) (x : Refusal) → isNone x ≡ false → isNone (unless good x) ≡ true → good ≡ true
 held true x n e = refl
 held false x n e = absurd (true≢false (sym e ∙ n))
 
-pub checked : (p : Plate) → isNone (Checks.refused p) ≡ true → Checks.Fits (p .points) (p .view1) (p .view2) (p .deviations) × T (goodDamping (p .damping))
+pub checked : (p : Problem) → isNone (Checks.refused p) ≡ true → Checks.Fits (p .points) (p .view1) (p .view2) (p .deviations) × T (goodDamping (p .damping))
 unfolding Checks.refused Checks.valuesRefused
 checked p e =
-    let lengths = after-none (Checks.unless (Checks.lengthsFit p) (of Rows.lengths)) _ e in
-    let points = after-none (Checks.unless (leb (count p) Checks.maxPoints) (of Rows.tooManyPoints)) (Checks.valuesRefused p) (lengths .1) in
-    let damping = after-none (Checks.unless (goodDamping (p .damping)) (of Rows.damping)) _ (points .1) in
+    let lengths = after-none (unless (Checks.lengthsFit p) (of Rows.lengths)) _ e in
+    let points = after-none (unless (leb (count p) Checks.maxPoints) (of Rows.tooManyPoints)) (Checks.valuesRefused p) (lengths .1) in
+    let damping = after-none (unless (goodDamping (p .damping)) (of Rows.damping)) _ (points .1) in
     let fit = ap not (held (Checks.lengthsFit p) (of Rows.lengths) (row-refuses Rows.lengths 0 0 refl) (lengths .0)) in
     let few = ap not (held (leb (count p) Checks.maxPoints) (of Rows.tooManyPoints) (row-refuses Rows.tooManyPoints 0 0 refl) (points .0)) in
     let good = held (goodDamping (p .damping)) (of Rows.damping) (row-refuses Rows.damping 0 0 refl) (damping .0) in
     (all-fit _ _ _ _ _ _ _ refl refl refl fit few, subst T (sym good) tt)
-
-valid-if-none : (p : Plate) → isNone (solvedStep p .refusal) ≡ true → isValid (reducedSystem p) ≡ true
-unfolding solvedStep notStepped isNone
-valid-if-none p e = by (isValid (reducedSystem p)) refl e
-  where
-    by : (b : Bool) → isValid (reducedSystem p) ≡ b
-        → isNone (cond b (cond (isNone (solvedOf p .refusal)) (stepped p) (notStepped (of Rows.notSolved))) (notStepped (of Rows.notFactored)) .refusal) ≡ true → isValid (reducedSystem p) ≡ true
-    by true q h = q
-    by false q h = absurd (true≢false (sym h))
 
 pub passed : (x v : Refusal) (b : Bool) → v ≡ x → b ≡ isNone v → not b ≡ false → isNone x ≡ true
 passed x v b e f t = ap isNone (sym e) ∙ sym f ∙ not-false b t
@@ -104,15 +96,24 @@ passed x v b e f t = ap isNone (sym e) ∙ sym f ∙ not-false b t
 pub room-fits : (b : Bool) (l n : ℕ) → b ≡ eqb l n → not b ≡ false → l ≡ n
 room-fits b l n e t = eqb-true l n (sym e ∙ not-false b t)
 
--- ---- the ways out
+module _ (p : Problem) (v : Refusal) (e : v ≡ Checks.refused p) (b : Bool) (f : b ≡ isNone v) (s : ReducedSystem) where
+  pub not-reduced : not b ≡ true → s ≡ noSystem → record { system = s; refusal = v } ≡ reduced p
+  unfolding reduced
+  not-reduced t g = rw (← e, ← f, not-true b t, g) refl
 
-module _ (p : Plate) (room : List Float) (r : StepResult) where
+  pub reduces : not b ≡ false → s ≡ reducedSystem p → (n : Refusal) → n ≡ none → record { system = s; refusal = n } ≡ reduced p
+  unfolding reduced
+  reduces t g n h = rw (← e, ← f, not-false b t, g, h) refl
+
+-- ---- the ways out of the whole step
+
+module _ (p : Problem) (room : List Float) (r : StepResult) where
   refuses : (x : Refusal) → isNone x ≡ false → refused p (length room) ≡ x → r ≡ notStepped x → Done p room r room
   unfolding step written notStepped
   refuses x n e h = record {
     result = h ∙ rw (e, n) refl;
     room-after = rw (h, n) refl;
-    none-refused = λ y. absurd (true≢false (sym y ∙ ap (λ (t : StepResult). isNone (t .refusal)) h ∙ n));
+    none-refused = λ y. absurd (true≢false (sym y ∙ ap isNone e ∙ n));
   }
 
   module _ (fits : Bool) (e : fits ≡ eqb (length room) (3 * count p)) where
@@ -128,8 +129,8 @@ module _ (p : Plate) (room : List Float) (r : StepResult) where
       unfolding refused
       same-refusal = sym (pass-unless (of Rows.lengths) (Checks.refused p) v (eqb (length room) (3 * count p)) fits e t f)
 
-      pub plate-refused : not b ≡ true → r ≡ notStepped v → Done p room r room
-      plate-refused u h = refuses v (sym g ∙ not-true b u) same-refusal h
+      pub checks-refused : not b ≡ true → r ≡ notStepped v → Done p room r room
+      checks-refused u h = refuses v (sym g ∙ not-true b u) same-refusal h
 
       pub done : not b ≡ false → (after : List Float) → (r ≡ solvedStep p) × (after ≡ written p r room) → Done p room r after
       unfolding step
@@ -137,5 +138,5 @@ module _ (p : Plate) (room : List Float) (r : StepResult) where
           let k = checked p (passed (Checks.refused p) v b f g u) in record {
             result = m .0 ∙ rw (same-refusal, ← g, not-false b u) refl;
             room-after = m .1;
-            none-refused = λ y i h. no-step-refused p (k .1) (k .0 .3) (valid-if-none p (ap (λ (q : StepResult). isNone (q .refusal)) (sym (m .0)) ∙ y)) i h (poseStepOf p);
+            none-refused = λ y v. no-step-refused p (k .1) (k .0 .3) v;
           }

@@ -1,7 +1,7 @@
 -- The checks of the whole step before any sum: rows 1 to 9 of document 01, "Refusals by number". A row is given if its condition holds and no earlier one does; the lowest index comes first.
-use Prim.Native.Nat.{ℕ, zero, suc, _*_, _≤_}
+use Prim.Native.Nat.{ℕ, _*_, _≤_}
 use mathlib.Core.Path.{_≡_}
-use mathlib.Core.Bool.{Bool, not, _&&_, cond}
+use mathlib.Core.Bool.{Bool, not, _&&_}
 use mathlib.Core.List.{List, [], _∷_}
 use lib.Dec.{eqb, leb}
 use lib.ListN.{length}
@@ -10,31 +10,15 @@ use Rattle.number.specs.Binary64.{epsilon64}
 use Rattle.number.specs.Parts.{isFinite}
 use Rattle.number.specs.Vectors.{_!_, allFinite}
 use Rattle.refusal.specs.Rows as Rows
-use Rattle.refusal.specs.Refused.{at, of, none, isNone}
+use Rattle.refusal.specs.Refused.{at, of, isNone}
+use Rattle.refusal.specs.First.{unless, firstOf, first}
 use Rattle.refusal.specs.declared.Refusal.{Refusal}
 use Rattle.point_block.specs.Lone.{goodDamping}
 use Rattle.schur.specs.Linearize.{goodDeviation}
-use Rattle.optimizer.specs.declared.Head.{Head}
-use Rattle.optimizer.specs.Plate.{Plate, count, triple, pair, observation, project}
+use Rattle.optimizer.specs.declared.Rig.{Rig}
+use Rattle.optimizer.specs.Problem.{Problem, count, triple, pair, observation, project}
 
-abbrev pub unless : Bool → Refusal → Refusal
-unless good r = cond good none r
-
-abbrev pub orElse : Refusal → Refusal → Refusal
-orElse r s = cond (isNone r) s r
-
--- the first refusal of a list
-abbrev pub firstOf : List Refusal → Refusal
-firstOf [] = none
-firstOf (r ∷ []) = r
-firstOf (r ∷ s ∷ rs) = orElse r (firstOf (s ∷ rs))
-
--- the first refusal of a check from index i on, among as many indexes as are left
-unfoldable pub first : (ℕ → Refusal) → ℕ → ℕ → Refusal
-first check i zero = none
-first check i (suc left) = orElse (check i) (first check (suc i) left)
-
--- a plate has 5 to 65,535 points
+-- a problem has 5 to 65,535 points
 abbrev pub minPoints : ℕ
 minPoints = 5
 
@@ -42,7 +26,7 @@ abbrev pub maxPoints : ℕ
 maxPoints = 65535
 
 -- row 1, the room apart
-abbrev pub lengthsFit : Plate → Bool
+abbrev pub lengthsFit : Problem → Bool
 lengthsFit p = eqb (length (p .points)) (3 * count p) && eqb (length (p .view1)) (2 * count p) && eqb (length (p .view2)) (2 * count p)
 
 -- what rows 1 and 2 leave
@@ -66,32 +50,32 @@ pointAt points i = unless (allFinite (triple points i)) (at Rows.point 0 i)
 abbrev pub observationAt : ℕ → List Float → ℕ → Refusal
 observationAt number view i = unless (allFinite (pair view i)) (at Rows.observation number i)
 
--- row 9 for one view of a point, then for view 1 and view 2
-abbrev pub viewAt : Head → List Float → List Float → List Float → ℕ → ℕ → Refusal
+-- row 9 for one view of a point, then for two views from view 1 on
+abbrev pub viewAt : Rig → List Float → List Float → List Float → ℕ → ℕ → Refusal
 viewAt h points view1 view2 i view =
     unless (isNone (project h view (observation view1 view2 view i) (triple points i) .refusal)) (at Rows.projection view i)
 
-abbrev pub projectionAt : Head → List Float → List Float → List Float → ℕ → Refusal
+abbrev pub projectionAt : Rig → List Float → List Float → List Float → ℕ → Refusal
 projectionAt h points view1 view2 i = first (viewAt h points view1 view2 i) 1 2
 
 -- rows 8 and 9: all of view 1, then view 2; then both views of a point before the next
-unfoldable pub seenRefused : Head → List Float → List Float → List Float → ℕ → Refusal
+unfoldable pub seenRefused : Rig → List Float → List Float → List Float → ℕ → Refusal
 seenRefused h points view1 view2 n =
     firstOf (first (observationAt 1 view1) 0 n ∷ first (observationAt 2 view2) 0 n ∷ first (projectionAt h points view1 view2) 0 n ∷ [])
 
 -- rows 3 to 9
-unfoldable pub valuesRefused : Plate → Refusal
+unfoldable pub valuesRefused : Problem → Refusal
 valuesRefused p =
     firstOf (
     unless (goodDamping (p .damping)) (of Rows.damping)
     ∷ first (deviationAt (p .deviations)) 0 (count p)
-    ∷ unless (goodBaseline (p .head .pose .baseline)) (of Rows.baseline)
+    ∷ unless (goodBaseline (p .rig .pose .baseline)) (of Rows.baseline)
     ∷ first (pointAt (p .points)) 0 (count p)
     ∷ unless (leb minPoints (count p)) (of Rows.tooFewPoints)
-    ∷ seenRefused (p .head) (p .points) (p .view1) (p .view2) (count p)
+    ∷ seenRefused (p .rig) (p .points) (p .view1) (p .view2) (count p)
     ∷ [])
 
 -- rows 1 to 9, the room apart
-unfoldable pub refused : Plate → Refusal
+unfoldable pub refused : Problem → Refusal
 refused p =
     firstOf (unless (lengthsFit p) (of Rows.lengths) ∷ unless (leb (count p) maxPoints) (of Rows.tooManyPoints) ∷ valuesRefused p ∷ [])

@@ -1,7 +1,7 @@
 -- `refine_impl` of optimizer.rs from `reduced_system` to `predicted_reduction`, once: document 01, "One whole step".
 use Prim.Native.Nat.{ℕ, zero, suc, _*_, _<_}
 use mathlib.Core.Path.{_≡_}
-use mathlib.Core.Bool.{true, cond}
+use mathlib.Core.Bool.{true, false, cond}
 use mathlib.Core.List.{List, [], _∷_, _++_}
 use lib.Dec.{eqb}
 use lib.IntN.{pos}
@@ -12,6 +12,7 @@ use Rattle.number.specs.Extrema.{max}
 use Rattle.number.specs.Root.{sqrt}
 use Rattle.number.specs.Vectors.{_!_, sum, tabulate}
 use Rattle.refusal.specs.Rows as Rows
+use Rattle.refusal.specs.First.{unless, orElse}
 use Rattle.refusal.specs.Refused.{of, none, isNone}
 use Rattle.refusal.specs.declared.Refusal.{Refusal}
 use Rattle.solver.specs.Solver.{solvePositiveDefinite}
@@ -22,20 +23,43 @@ use Rattle.schur.specs.PointStep.{pointStep}
 use Rattle.schur.specs.declared.system.ReducedSystem.{ReducedSystem}
 use Rattle.schur.specs.declared.linearize.Dot.{Dot}
 use Rattle.schur.specs.declared.point_step.PointStep.{PointStep}
-use Rattle.optimizer.specs.declared.Head.{Head}
+use Rattle.optimizer.specs.declared.Rig.{Rig}
 use Rattle.optimizer.specs.declared.StepResult.{StepResult}
 use Rattle.optimizer.specs.declared.point_steps.Sums.{Sums}
-use Rattle.optimizer.specs.Plate.{Plate, count, dotAt, blockOf, blockAt}
+use Rattle.optimizer.specs.declared.reduced.Reduced.{Reduced}
+use Rattle.optimizer.specs.Problem.{Problem, count, dotAt, blockOf, blockAt}
 use Rattle.optimizer.specs.Checks as Checks
 
 -- the system with the first blocks added, in their order
-unfoldable pub systemTo : Plate → ℕ → ReducedSystem
+unfoldable pub systemTo : Problem → ℕ → ReducedSystem
 systemTo p zero = newSystem
 systemTo p (suc n) = add (systemTo p n) (blockAt p n) (p .damping) .system
 
 -- `reduced_system`: all blocks, then the pose damping
-unfoldable pub reducedSystem : Plate → ReducedSystem
+unfoldable pub reducedSystem : Problem → ReducedSystem
 reducedSystem p = finishDamping (systemTo p (count p)) (p .damping) .system
+
+-- beside a refusal: every number +0, and the flag false
+unfoldable pub noSystem : ReducedSystem
+noSystem = record {
+  hessian = tabulate 25 (λ i. zero·);
+  gradient = tabulate 5 (λ i. zero·);
+  cost = zero·;
+  «squared_residual» = zero·;
+  «full_pose_gradient» = tabulate 5 (λ i. zero·);
+  «pose_diagonal» = tabulate 5 (λ i. zero·);
+  «point_model_reduction» = zero·;
+  «scaled_point_gradient_inf_norm» = zero·;
+  «weak_point_count» = 0;
+  «minimum_point_rcond» = zero·;
+  valid = false;
+  «block_count» = 0;
+}
+
+-- the system of a problem that rows 1 to 9 let through
+unfoldable pub reduced : Problem → Reduced
+reduced p =
+    cond (isNone (Checks.refused p)) (record { system = reducedSystem p; refusal = none }) (record { system = noSystem; refusal = Checks.refused p })
 
 -- ---- the step of the pose
 
@@ -56,29 +80,29 @@ limitPoseStep x = cond (lt half (stepLength x)) (scaled x (half ⊘ stepLength x
 unfoldable pub poseStep : List Float → List Float
 poseStep x = limitPoseStep (tabulate 5 (λ i. neg (x ! i)))
 
-abbrev pub solvedOf : Plate → Solved
+abbrev pub solvedOf : Problem → Solved
 solvedOf p = solvePositiveDefinite (reducedSystem p .hessian) (reducedSystem p .gradient)
 
 -- the limited step of a valid system that is solved
-unfoldable pub poseStepOf : Plate → List Float
+unfoldable pub poseStepOf : Problem → List Float
 poseStepOf p = poseStep (solvedOf p .x)
 
 -- ---- the steps of the points, and their sums as `candidate_cost` has them, from +0
 
-unfoldable pub pointStepOf : Head → Dot → Float → List Float → PointStep
+unfoldable pub pointStepOf : Rig → Dot → Float → List Float → PointStep
 pointStepOf h dot damping s = pointStep (blockOf h dot) damping s
 
-abbrev pub stepAt : Plate → List Float → ℕ → PointStep
-stepAt p s i = pointStepOf (p .head) (dotAt (p .points) (p .view1) (p .view2) (p .deviations) i) (p .damping) s
+abbrev pub stepAt : Problem → List Float → ℕ → PointStep
+stepAt p s i = pointStepOf (p .rig) (dotAt (p .points) (p .view1) (p .view2) (p .deviations) i) (p .damping) s
 
-unfoldable pub stepsTo : Plate → List Float → ℕ → List Float
+unfoldable pub stepsTo : Problem → List Float → ℕ → List Float
 stepsTo p s zero = []
 stepsTo p s (suc n) = stepsTo p s n ++ stepAt p s n .step
 
 abbrev pub squaredNorm : List Float → Float
 squaredNorm x = sum (squared (x ! 0) ∷ squared (x ! 1) ∷ squared (x ! 2) ∷ [])
 
-unfoldable pub sumsTo : Plate → List Float → ℕ → Sums
+unfoldable pub sumsTo : Problem → List Float → ℕ → Sums
 sumsTo p s zero = record { squared = zero·; «damping_norm» = zero· }
 sumsTo p s (suc n) = record {
   squared = sumsTo p s n .squared ⊕ squaredNorm (stepAt p s n .step);
@@ -120,32 +144,32 @@ notStepped r = record {
   refusal = r;
 }
 
-unfoldable pub stepped : Plate → StepResult
+unfoldable pub stepped : Problem → StepResult
 stepped p = finished (reducedSystem p) (poseStepOf p) (p .damping) (count p) (sumsTo p (poseStepOf p) (count p))
 
 -- rows 10 and 11, then the step
-unfoldable pub solvedStep : Plate → StepResult
+unfoldable pub solvedStep : Problem → StepResult
 solvedStep p =
     cond (isValid (reducedSystem p)) (cond (isNone (solvedOf p .refusal)) (stepped p) (notStepped (of Rows.notSolved))) (notStepped (of Rows.notFactored))
 
 -- rows 1 to 9, the room's length included
-unfoldable pub refused : Plate → ℕ → Refusal
-refused p room = Checks.orElse (Checks.unless (eqb room (3 * count p)) (of Rows.lengths)) (Checks.refused p)
+unfoldable pub refused : Problem → ℕ → Refusal
+refused p room = orElse (unless (eqb room (3 * count p)) (of Rows.lengths)) (Checks.refused p)
 
 -- rows 1 to 11, then the step
-unfoldable pub step : Plate → ℕ → StepResult
+unfoldable pub step : Problem → ℕ → StepResult
 step p room = cond (isNone (refused p room)) (solvedStep p) (notStepped (refused p room))
 
 -- the room after a call that gives r: all point steps, or what it held before
-unfoldable pub written : Plate → StepResult → List Float → List Float
+unfoldable pub written : Problem → StepResult → List Float → List Float
 written p r room = cond (isNone (r .refusal)) (stepsTo p (poseStepOf p) (count p)) room
 
--- "Once the system is valid no point step is refused"
-abbrev pub NoneRefused : Plate → Type 0
-NoneRefused p = (i : ℕ) → i < count p → stepAt p (poseStepOf p) i .refusal ≡ none
+-- "Once the system is valid no point step is refused": whatever the step of the pose
+abbrev pub NoneRefused : Problem → Type 0
+NoneRefused p = isValid (reducedSystem p) ≡ true → (i : ℕ) → i < count p → (s : List Float) → stepAt p s i .refusal ≡ none
 
--- what a call promises: its result, the room, and that no point step of a valid system is refused
-pub record Done (p : Plate) (room : List Float) (r : StepResult) (after : List Float) : Type 0 where
+-- what a call promises: its result, the room, and, where rows 1 to 9 let the problem through, that no point step of a valid system is refused
+pub record Done (p : Problem) (room : List Float) (r : StepResult) (after : List Float) : Type 0 where
   pub result : r ≡ step p (length room)
   pub room-after : after ≡ written p r room
-  pub none-refused : isNone (r .refusal) ≡ true → NoneRefused p
+  pub none-refused : isNone (refused p (length room)) ≡ true → NoneRefused p

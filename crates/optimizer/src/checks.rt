@@ -6,36 +6,37 @@ ghost use mathlib.Core.Path.{_≡_};
 ghost use Prim.Native.Nat.{_<_, _≤_, _*_};
 ghost use lib.Dec.{eqb};
 ghost use lib.ListN.{length};
+ghost use Rattle.refusal.specs.First as First;
 ghost use Rattle.optimizer.specs.Checks as Checks;
-ghost use Rattle.optimizer.specs.Plate as Plate;
-use crate::Head;
+ghost use Rattle.optimizer.specs.Problem as Problem;
+use crate::Rig;
 use crate::dots;
 use refusal::Refusal;
 
-const MIN_POINTS: usize = 5;
+const MINIMUM_POINTS: usize = 5;
 
-const MAX_POINTS: usize = 65535;
+const MAXIMUM_POINTS: usize = 65535;
 
-// The first of rows 1 to 9 that a plate meets
+// The first of rows 1 to 9 that a problem meets; row 1 is tested without the room.
 pub fn refused<'a>(
     points: &[f64],
     view1: &'a [f64],
     view2: &'a [f64],
     inverse_deviations: &[f64],
-    head: Head,
+    rig: Rig,
     damping: f64,
 ) -> Refusal
-    ensures { λ r. ⌜ r ≡ Checks.refused (Plate.plate (now (points .entry)) (now (view1 .entry)) (now (view2 .entry))
-        (now («inverse_deviations» .entry)) head damping) ⌝ }
+    ensures { λ r. ⌜ r ≡ Checks.refused (Problem.problem (now (points .entry)) (now (view1 .entry)) (now (view2 .entry))
+        (now («inverse_deviations» .entry)) rig damping) ⌝ }
 {
     let n = inverse_deviations.len();
     if !(belongs(points.len(), 3, n) & belongs(view1.len(), 2, n) & belongs(view2.len(), 2, n)) {
         return Refusal::of(refusal::LENGTHS);
     }
-    if !(n <= MAX_POINTS) {
+    if !(n <= MAXIMUM_POINTS) {
         return Refusal::of(refusal::TOO_MANY_POINTS);
     }
-    values_refused(points, view1, view2, inverse_deviations, head, damping)
+    values_refused(points, view1, view2, inverse_deviations, rig, damping)
 }
 
 // Whether a length is n times a number, by no product that could wrap
@@ -52,15 +53,15 @@ fn values_refused<'a>(
     view1: &'a [f64],
     view2: &'a [f64],
     inverse_deviations: &[f64],
-    head: Head,
+    rig: Rig,
     damping: f64,
 ) -> Refusal
     requires { ⌜ Checks.Fits (now points) (now view1) (now view2) (now «inverse_deviations») ⌝ }
-    ensures { λ r. ⌜ r ≡ Checks.valuesRefused (Plate.plate (now (points .entry)) (now (view1 .entry)) (now (view2 .entry))
-        (now («inverse_deviations» .entry)) head damping) ⌝ }
+    ensures { λ r. ⌜ r ≡ Checks.valuesRefused (Problem.problem (now (points .entry)) (now (view1 .entry)) (now (view2 .entry))
+        (now («inverse_deviations» .entry)) rig damping) ⌝ }
 {
     let n = inverse_deviations.len();
-    let pose = head.pose;
+    let pose = rig.pose;
     if !point_block::good_damping(damping) {
         return Refusal::of(refusal::DAMPING);
     }
@@ -75,16 +76,16 @@ fn values_refused<'a>(
     if !by_point.is_none() {
         return by_point;
     }
-    if !(MIN_POINTS <= n) {
+    if !(MINIMUM_POINTS <= n) {
         return Refusal::of(refusal::TOO_FEW_POINTS);
     }
-    seen_refused(points, view1, view2, n, head)
+    seen_refused(points, view1, view2, n, rig)
 }
 
 // Row 4
 fn deviations_refused(inverse_deviations: &[f64]) -> Refusal
-    requires { ⌜ length (now «inverse_deviations») ≤ 65535 ⌝ }
-    ensures { λ r. ⌜ r ≡ Checks.first (Checks.deviationAt (now («inverse_deviations» .entry))) 0 (length (now («inverse_deviations» .entry))) ⌝ }
+    requires { ⌜ length (now «inverse_deviations») ≤ Checks.maxPoints ⌝ }
+    ensures { λ r. ⌜ r ≡ First.first (Checks.deviationAt (now («inverse_deviations» .entry))) 0 (length (now («inverse_deviations» .entry))) ⌝ }
 {
     for i in 0..inverse_deviations.len() {
         if !schur::good_deviation(inverse_deviations[i]) {
@@ -103,8 +104,8 @@ fn good_baseline(baseline: f64) -> bool
 
 // Row 6
 fn points_refused(points: &[f64], n: usize) -> Refusal
-    requires { ⌜ (length (now points) ≡ 3 * n) × (n ≤ 65535) ⌝ }
-    ensures { λ r. ⌜ r ≡ Checks.first (Checks.pointAt (now (points .entry))) 0 n ⌝ }
+    requires { ⌜ (length (now points) ≡ 3 * n) × (n ≤ Checks.maxPoints) ⌝ }
+    ensures { λ r. ⌜ r ≡ First.first (Checks.pointAt (now (points .entry))) 0 n ⌝ }
 {
     for i in 0..n {
         let point = dots::point_at(points, i);
@@ -121,10 +122,10 @@ fn seen_refused<'a>(
     view1: &'a [f64],
     view2: &'a [f64],
     n: usize,
-    head: Head,
+    rig: Rig,
 ) -> Refusal
-    requires { ⌜ (length (now points) ≡ 3 * n) × (length (now view1) ≡ 2 * n) × (length (now view2) ≡ 2 * n) × (n ≤ 65535) ⌝ }
-    ensures { λ r. ⌜ r ≡ Checks.seenRefused head (now (points .entry)) (now (view1 .entry)) (now (view2 .entry)) n ⌝ }
+    requires { ⌜ (length (now points) ≡ 3 * n) × (length (now view1) ≡ 2 * n) × (length (now view2) ≡ 2 * n) × (n ≤ Checks.maxPoints) ⌝ }
+    ensures { λ r. ⌜ r ≡ Checks.seenRefused rig (now (points .entry)) (now (view1 .entry)) (now (view2 .entry)) n ⌝ }
 {
     let in_view1 = view_refused(view1, 1, n);
     if !in_view1.is_none() {
@@ -134,13 +135,13 @@ fn seen_refused<'a>(
     if !in_view2.is_none() {
         return in_view2;
     }
-    projections_refused(points, view1, view2, n, head)
+    projections_refused(points, view1, view2, n, rig)
 }
 
 // Row 8 for one view
 fn view_refused(view: &[f64], number: u32, n: usize) -> Refusal
-    requires { ⌜ (length (now view) ≡ 2 * n) × (n ≤ 65535) ⌝ }
-    ensures { λ r. ⌜ r ≡ Checks.first (Checks.observationAt number (now (view .entry))) 0 n ⌝ }
+    requires { ⌜ (length (now view) ≡ 2 * n) × (n ≤ Checks.maxPoints) ⌝ }
+    ensures { λ r. ⌜ r ≡ First.first (Checks.observationAt number (now (view .entry))) 0 n ⌝ }
 {
     for i in 0..n {
         let observation = dots::pair_at(view, i);
@@ -157,17 +158,17 @@ fn projections_refused<'a>(
     view1: &'a [f64],
     view2: &'a [f64],
     n: usize,
-    head: Head,
+    rig: Rig,
 ) -> Refusal
-    requires { ⌜ (length (now points) ≡ 3 * n) × (length (now view1) ≡ 2 * n) × (length (now view2) ≡ 2 * n) × (n ≤ 65535) ⌝ }
-    ensures { λ r. ⌜ r ≡ Checks.first (Checks.projectionAt head (now (points .entry)) (now (view1 .entry)) (now (view2 .entry))) 0 n ⌝ }
+    requires { ⌜ (length (now points) ≡ 3 * n) × (length (now view1) ≡ 2 * n) × (length (now view2) ≡ 2 * n) × (n ≤ Checks.maxPoints) ⌝ }
+    ensures { λ r. ⌜ r ≡ First.first (Checks.projectionAt rig (now (points .entry)) (now (view1 .entry)) (now (view2 .entry))) 0 n ⌝ }
 {
     let mut place = Refusal::none();
     'points: for i in 0..n {
         let point = dots::point_at(points, i);
         for view in 1..=2u32 {
             let seen = dots::observation(view1, view2, view, i);
-            let projected = dots::project(head, view, [seen[0], seen[1]], point);
+            let projected = dots::project(rig, view, [seen[0], seen[1]], point);
             let refusal = projected.refusal;
             if !refusal.is_none() {
                 place = Refusal::at(refusal::PROJECTION, view, i as u32);

@@ -5,22 +5,22 @@
 ghost use mathlib.Core.Path.{_≡_};
 ghost use Prim.Native.Nat.{_<_, _≤_, _*_, _+_};
 ghost use lib.ListN.{length};
-ghost use Rattle.optimizer.specs.Plate as Plate;
-use crate::Head;
+ghost use Rattle.optimizer.specs.Problem as Problem;
+use crate::Rig;
 use projection::Projected;
 use schur::Dot;
 use schur::LocalLinearization;
 
 pub(crate) fn point_at(points: &[f64], i: usize) -> [f64; 3]
     requires { ⌜ 3 * i + 2 < length (now points) ⌝ }
-    ensures { λ r. ⌜ r ≡ Plate.triple (now (points .entry)) i ⌝ }
+    ensures { λ r. ⌜ r ≡ Problem.triple (now (points .entry)) i ⌝ }
 {
     [points[3 * i], points[3 * i + 1], points[3 * i + 2]]
 }
 
 pub(crate) fn pair_at(view: &[f64], i: usize) -> [f64; 2]
     requires { ⌜ 2 * i + 1 < length (now view) ⌝ }
-    ensures { λ r. ⌜ r ≡ Plate.pair (now (view .entry)) i ⌝ }
+    ensures { λ r. ⌜ r ≡ Problem.pair (now (view .entry)) i ⌝ }
 {
     [view[2 * i], view[2 * i + 1]]
 }
@@ -28,7 +28,7 @@ pub(crate) fn pair_at(view: &[f64], i: usize) -> [f64; 2]
 // The part of view 1 or 2 that holds the two numbers of a point
 pub(crate) fn observation<'a>(view1: &'a [f64], view2: &'a [f64], view: u32, i: usize) -> &'a [f64]
     requires { ⌜ (2 * i + 1 < length (now view1)) × (2 * i + 1 < length (now view2)) ⌝ }
-    ensures { λ r. ⌜ now r ≡ Plate.observation (now (view1 .entry)) (now (view2 .entry)) view i ⌝ }
+    ensures { λ r. ⌜ now r ≡ Problem.observation (now (view1 .entry)) (now (view2 .entry)) view i ⌝ }
 {
     if view == 1 {
         &view1[2 * i..2 * i + 2]
@@ -46,7 +46,7 @@ pub(crate) fn dot_at(
 ) -> Dot
     requires { ⌜ (3 * i + 2 < length (now points)) × (2 * i + 1 < length (now view1)) × (2 * i + 1 < length (now view2))
         × (i < length (now «inverse_deviations»)) ⌝ }
-    ensures { λ r. ⌜ r ≡ Plate.dotAt (now (points .entry)) (now (view1 .entry)) (now (view2 .entry)) (now («inverse_deviations» .entry)) i ⌝ }
+    ensures { λ r. ⌜ r ≡ Problem.dotAt (now (points .entry)) (now (view1 .entry)) (now (view2 .entry)) (now («inverse_deviations» .entry)) i ⌝ }
 {
     Dot {
         point: point_at(points, i),
@@ -57,22 +57,22 @@ pub(crate) fn dot_at(
 }
 
 // The block of a dot
-pub(crate) fn block_of(head: Head, dot: Dot) -> LocalLinearization
-    ensures { λ r. ⌜ r ≡ Plate.blockOf head dot ⌝ }
+pub(crate) fn block_of(rig: Rig, dot: Dot) -> LocalLinearization
+    ensures { λ r. ⌜ r ≡ Problem.blockOf rig dot ⌝ }
 {
-    let camera1 = head.camera1;
-    let camera2 = head.camera2;
-    let pose = head.pose;
+    let camera1 = rig.camera1;
+    let camera2 = rig.camera2;
+    let pose = rig.pose;
     schur::linearize_point(camera1, camera2, pose, dot)
 }
 
 // A point as view 1 or 2 sees it
-pub(crate) fn project(head: Head, view: u32, observation: [f64; 2], point: [f64; 3]) -> Projected
-    ensures { λ r. ⌜ r ≡ Plate.project head view observation point ⌝ }
+pub(crate) fn project(rig: Rig, view: u32, observation: [f64; 2], point: [f64; 3]) -> Projected
+    ensures { λ r. ⌜ r ≡ Problem.project rig view observation point ⌝ }
 {
-    let pose = head.pose;
-    let camera1 = head.camera1;
-    let camera2 = head.camera2;
+    let pose = rig.pose;
+    let camera1 = rig.camera1;
+    let camera2 = rig.camera2;
     let rotation = pose.rotation;
     let translation = pose.translation;
     if view == 1 {

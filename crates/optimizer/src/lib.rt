@@ -1,22 +1,25 @@
 // SPDX-FileCopyrightText: 2026 Pierre Moulon and OpenMVG Rust contributors
 // SPDX-License-Identifier: MIT OR Apache-2.0
 
-// One whole step of the two-view problem over lent memory: kernel/two_view/optimizer.rs.
+// One whole step of the two-view problem over lent memory: kernel/two_view/optimizer.rs, residual.rs.
 mod checks;
 mod dots;
 mod limit;
 mod point_steps;
+mod reduced;
 mod whole_step;
 
 pub use checks::refused;
 pub use limit::limit_pose_step;
 use projection::PinholeCamera;
+pub use reduced::Reduced;
+pub use reduced::reduced_system;
 use refusal::Refusal;
 use schur::Pose;
 pub use whole_step::step;
 
 // The two cameras, and how the second one sits
-pub struct Head {
+pub struct Rig {
     pub camera1: PinholeCamera,
     pub camera2: PinholeCamera,
     pub pose: Pose,

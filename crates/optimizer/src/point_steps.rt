@@ -6,9 +6,9 @@ ghost use mathlib.Core.Path.{_≡_};
 ghost use Prim.Native.Nat.{_*_};
 ghost use lib.ListN.{length};
 ghost use Rattle.optimizer.specs.Checks as Checks;
-ghost use Rattle.optimizer.specs.Plate as Plate;
+ghost use Rattle.optimizer.specs.Problem as Problem;
 ghost use Rattle.optimizer.specs.Step as Steps;
-use crate::Head;
+use crate::Rig;
 use crate::dots;
 use schur::Dot;
 use schur::PointStep;
@@ -25,20 +25,20 @@ pub(crate) fn write_steps(
     view1: &[f64],
     view2: &[f64],
     inverse_deviations: &[f64],
-    head: Head,
+    rig: Rig,
     damping: f64,
     pose_step: [f64; 5],
     room: &mut [f64],
 ) -> Sums
     requires { ⌜ Checks.Fits (now points) (now view1) (now view2) (now «inverse_deviations») × (length (now room) ≡ 3 * length (now «inverse_deviations»)) ⌝ }
-    ensures { λ r. ⌜ (r ≡ Steps.sumsTo (Plate.plate (now (points .entry)) (now (view1 .entry)) (now (view2 .entry)) (now («inverse_deviations» .entry)) head damping) «pose_step» (length (now («inverse_deviations» .entry))))
-        × (now (room .exit) ≡ Steps.stepsTo (Plate.plate (now (points .entry)) (now (view1 .entry)) (now (view2 .entry)) (now («inverse_deviations» .entry)) head damping) «pose_step» (length (now («inverse_deviations» .entry)))) ⌝ }
+    ensures { λ r. ⌜ (r ≡ Steps.sumsTo (Problem.problem (now (points .entry)) (now (view1 .entry)) (now (view2 .entry)) (now («inverse_deviations» .entry)) rig damping) «pose_step» (length (now («inverse_deviations» .entry))))
+        × (now (room .exit) ≡ Steps.stepsTo (Problem.problem (now (points .entry)) (now (view1 .entry)) (now (view2 .entry)) (now («inverse_deviations» .entry)) rig damping) «pose_step» (length (now («inverse_deviations» .entry)))) ⌝ }
 {
     let mut squared = 0.0;
     let mut damping_norm = 0.0;
     for i in 0..inverse_deviations.len() {
         let dot = dots::dot_at(points, view1, view2, inverse_deviations, i);
-        let moved = point_step(head, dot, damping, pose_step);
+        let moved = point_step(rig, dot, damping, pose_step);
         let s = moved.step;
         room[3 * i] = s[0];
         room[3 * i + 1] = s[1];
@@ -53,10 +53,10 @@ pub(crate) fn write_steps(
 }
 
 // The step of one dot
-fn point_step(head: Head, dot: Dot, damping: f64, pose_step: [f64; 5]) -> PointStep
-    ensures { λ r. ⌜ r ≡ Steps.pointStepOf head dot damping «pose_step» ⌝ }
+fn point_step(rig: Rig, dot: Dot, damping: f64, pose_step: [f64; 5]) -> PointStep
+    ensures { λ r. ⌜ r ≡ Steps.pointStepOf rig dot damping «pose_step» ⌝ }
 {
-    schur::point_step_with_damping_norm(dots::block_of(head, dot), damping, pose_step)
+    schur::point_step_with_damping_norm(dots::block_of(rig, dot), damping, pose_step)
 }
 
 // The sum begins at −0.

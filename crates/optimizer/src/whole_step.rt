@@ -6,14 +6,14 @@ ghost use mathlib.Core.Path.{_≡_};
 ghost use Prim.Native.Nat.{_≤_, _*_};
 ghost use lib.ListN.{length};
 ghost use Rattle.optimizer.specs.Checks as Checks;
-ghost use Rattle.optimizer.specs.Plate as Plate;
+ghost use Rattle.optimizer.specs.Problem as Problem;
 ghost use Rattle.optimizer.specs.Step as Steps;
-use crate::Head;
+use crate::Rig;
 use crate::StepResult;
 use crate::checks;
-use crate::dots;
 use crate::limit;
 use crate::point_steps;
+use crate::reduced;
 use refusal::Refusal;
 use schur::ReducedSystem;
 
@@ -23,29 +23,21 @@ pub fn step<'a>(
     view1: &'a [f64],
     view2: &'a [f64],
     inverse_deviations: &[f64],
-    head: Head,
+    rig: Rig,
     damping: f64,
     room: &mut [f64],
 ) -> StepResult
-    ensures { λ r. ⌜ Steps.Done (Plate.plate (now (points .entry)) (now (view1 .entry)) (now (view2 .entry)) (now («inverse_deviations» .entry)) head damping)
+    ensures { λ r. ⌜ Steps.Done (Problem.problem (now (points .entry)) (now (view1 .entry)) (now (view2 .entry)) (now («inverse_deviations» .entry)) rig damping)
         (now (room .entry)) r (now (room .exit)) ⌝ }
 {
     if !checks::belongs(room.len(), 3, inverse_deviations.len()) {
         return not_stepped(Refusal::of(refusal::LENGTHS));
     }
-    let refusal = checks::refused(points, view1, view2, inverse_deviations, head, damping);
+    let refusal = checks::refused(points, view1, view2, inverse_deviations, rig, damping);
     if !refusal.is_none() {
         return not_stepped(refusal);
     }
-    solved_step(
-        points,
-        view1,
-        view2,
-        inverse_deviations,
-        head,
-        damping,
-        room,
-    )
+    solved_step(points, view1, view2, inverse_deviations, rig, damping, room)
 }
 
 // Rows 10 and 11, then the step
@@ -54,15 +46,15 @@ fn solved_step(
     view1: &[f64],
     view2: &[f64],
     inverse_deviations: &[f64],
-    head: Head,
+    rig: Rig,
     damping: f64,
     room: &mut [f64],
 ) -> StepResult
     requires { ⌜ Checks.Fits (now points) (now view1) (now view2) (now «inverse_deviations») × (length (now room) ≡ 3 * length (now «inverse_deviations»)) ⌝ }
-    ensures { λ r. ⌜ (r ≡ Steps.solvedStep (Plate.plate (now (points .entry)) (now (view1 .entry)) (now (view2 .entry)) (now («inverse_deviations» .entry)) head damping))
-        × (now (room .exit) ≡ Steps.written (Plate.plate (now (points .entry)) (now (view1 .entry)) (now (view2 .entry)) (now («inverse_deviations» .entry)) head damping) r (now (room .entry))) ⌝ }
+    ensures { λ r. ⌜ (r ≡ Steps.solvedStep (Problem.problem (now (points .entry)) (now (view1 .entry)) (now (view2 .entry)) (now («inverse_deviations» .entry)) rig damping))
+        × (now (room .exit) ≡ Steps.written (Problem.problem (now (points .entry)) (now (view1 .entry)) (now (view2 .entry)) (now («inverse_deviations» .entry)) rig damping) r (now (room .entry))) ⌝ }
 {
-    let system = reduced_system(points, view1, view2, inverse_deviations, head, damping);
+    let system = reduced::damped_system(points, view1, view2, inverse_deviations, rig, damping);
     if !system.is_valid() {
         return not_stepped(Refusal::of(refusal::NOT_FACTORED));
     }
@@ -80,35 +72,12 @@ fn solved_step(
         view1,
         view2,
         inverse_deviations,
-        head,
+        rig,
         damping,
         pose_step,
         room,
     );
     finished(system, pose_step, damping, inverse_deviations.len(), sums)
-}
-
-// All blocks added in their order, then the pose damping
-fn reduced_system(
-    points: &[f64],
-    view1: &[f64],
-    view2: &[f64],
-    inverse_deviations: &[f64],
-    head: Head,
-    damping: f64,
-) -> ReducedSystem
-    requires { ⌜ Checks.Fits (now points) (now view1) (now view2) (now «inverse_deviations») ⌝ }
-    ensures { λ r. ⌜ r ≡ Steps.reducedSystem (Plate.plate (now (points .entry)) (now (view1 .entry)) (now (view2 .entry)) (now («inverse_deviations» .entry)) head damping) ⌝ }
-{
-    let mut system = ReducedSystem::new();
-    for i in 0..inverse_deviations.len() {
-        let dot = dots::dot_at(points, view1, view2, inverse_deviations, i);
-        let local = dots::block_of(head, dot);
-        let added = system.add(local, damping);
-        system = added.system;
-    }
-    let finished = system.finish_damping(damping);
-    finished.system
 }
 
 fn finished(
@@ -118,7 +87,7 @@ fn finished(
     n: usize,
     sums: point_steps::Sums,
 ) -> StepResult
-    requires { ⌜ n ≤ 65535 ⌝ }
+    requires { ⌜ n ≤ Checks.maxPoints ⌝ }
     ensures { λ r. ⌜ r ≡ Steps.finished system «pose_step» damping n sums ⌝ }
 {
     let norms = sums.damping_norm;

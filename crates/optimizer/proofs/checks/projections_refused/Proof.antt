@@ -6,25 +6,26 @@ use borrow.Author.Needs.{needs}
 use lib.ListN.{length}
 use Rattle.refusal.specs.Rows as Rows
 use Rattle.refusal.specs.Refused.{at, none, isNone}
-use Rattle.optimizer.specs.Checks.{first, viewAt, projectionAt}
-use Rattle.optimizer.proofs.Scans.{Scanned, begins, ends, goes-on, leaves, is-good, is-bad, bad, row-refuses, none-refuses}
+use Rattle.refusal.specs.First.{first}
+use Rattle.optimizer.specs.Checks.{viewAt, projectionAt}
+use Rattle.refusal.proofs.Scans.{Scanned, begins, ends, goes-on, leaves, is-good, is-bad, bad, row-refuses, none-refuses}
 use Rattle.optimizer.proofs.Parts.{seen-length, view-test}
 use Rattle.optimizer.proofs.checks.projections_refused.Statement.{statement}
 use Rattle.optimizer.proofs.checks.projections_refused.Tie as tie
 
 abbrev Inv-loop : tie.InvT-loop
-Inv-loop points view1 view2 n head place₀ i point view₀ place view =
-    (1 ≤ view) × (place ≡ none) × Scanned (projectionAt head points view1 view2 i) (viewAt head points view1 view2 i) 3 view
+Inv-loop points view1 view2 n rig place₀ i point view₀ place view =
+    (1 ≤ view) × (place ≡ none) × Scanned (projectionAt rig points view1 view2 i) (viewAt rig points view1 view2 i) 3 view
 
 abbrev μ-loop : tie.MeasureT-loop
-μ-loop points view1 view2 n head place₀ i point view₀ place view = 3 - view
+μ-loop points view1 view2 n rig place₀ i point view₀ place view = 3 - view
 
 abbrev Inv-points : tie.InvT-points
-Inv-points points view1 view2 n head place₀ i₀ place i =
-    (place ≡ none) × Scanned (first (projectionAt head points view1 view2) 0 n) (projectionAt head points view1 view2) n i
+Inv-points points view1 view2 n rig place₀ i₀ place i =
+    (place ≡ none) × Scanned (first (projectionAt rig points view1 view2) 0 n) (projectionAt rig points view1 view2) n i
 
 abbrev μ-points : tie.MeasureT-points
-μ-points points view1 view2 n head place₀ i₀ place i = n - i
+μ-points points view1 view2 n rig place₀ i₀ place i = n - i
 
 seen : (c : tie.After-shared-slice-known4 Inv-loop μ-loop Inv-points μ-points) → length (c .before .observation .result .now) ≡ 2
 seen c =
@@ -40,7 +41,7 @@ loop-again c =
     let l = p .before .before .before .before .before in
     let o = l .before .before .before in
     let a = o .before .before .before .before .before .args in
-    let e = view-test (a .view1 .now) (a .view2 .now) (l .loop .view) (o .points .i) _ (p .before .before .before .observation .ensures) (a .head) (a .points .now) _ _ _ (l .before .point-at .ensures) (p .project .ensures) (m .is-none .ensures) in
+    let e = view-test (a .view1 .now) (a .view2 .now) (l .loop .view) (o .points .i) _ (p .before .before .before .observation .ensures) (a .rig) (a .points .now) _ _ _ (l .before .point-at .ensures) (p .project .ensures) (m .is-none .ensures) in
     (omega arith, l .loop .inv .1, goes-on _ _ _ _ (l .loop .inv .2) (omega arith) (is-good (at Rows.projection (l .loop .view) (o .points .i)) _ _ e (c .if1 .left)))
 
 points-again : tie.Need-points-again Inv-loop μ-loop Inv-points μ-points
@@ -59,7 +60,7 @@ returns-2 c =
     let l = p .before .before .before .before .before in
     let o = l .before .before .before in
     let a = o .before .before .before .before .before .args in
-    let e = view-test (a .view1 .now) (a .view2 .now) (l .loop .view) (o .points .i) _ (p .before .before .before .observation .ensures) (a .head) (a .points .now) _ _ _ (l .before .point-at .ensures) (p .project .ensures) (m .is-none .ensures) in
+    let e = view-test (a .view1 .now) (a .view2 .now) (l .loop .view) (o .points .i) _ (p .before .before .before .observation .ensures) (a .rig) (a .points .now) _ _ _ (l .before .point-at .ensures) (p .project .ensures) (m .is-none .ensures) in
     let r = row-refuses Rows.projection (l .loop .view) (o .points .i) refl in
     let k = leaves _ _ _ _ (l .loop .inv .2) (omega arith) (is-bad _ _ _ e r (c .before .if1 .taken)) ∙ bad _ _ _ e (c .before .if1 .taken) in
     c .at .ensures ∙ sym (leaves _ _ _ _ (o .points .inv .1) (omega arith) (ap isNone k ∙ r) ∙ k)

@@ -5,7 +5,7 @@ use Rattle.refusal.specs.Refused.{of}
 use lib.Dec.{leb}
 use lib.ListN.{length}
 use mathlib.Core.Bool.{Bool}
-use Rattle.optimizer.proofs.Scans.{stop-unless, pass-unless}
+use Rattle.refusal.proofs.Scans.{stop-unless, pass-unless}
 use Rattle.optimizer.proofs.Parts.{fits, all-fit}
 use mathlib.Core.Path.{refl}
 use borrow.Author.Needs.{needs}

@@ -1,6 +1,6 @@
 -- `optimizer::checks::seen_refused` meets its contract. Assumes nothing.
 use Rattle.optimizer.specs.Checks.{seenRefused}
-use Rattle.optimizer.proofs.Scans.{stop, pass}
+use Rattle.refusal.proofs.Scans.{stop, pass}
 use borrow.Author.Needs.{needs}
 use Rattle.optimizer.proofs.checks.seen_refused.Statement.{statement}
 use Rattle.optimizer.proofs.checks.seen_refused.Tie as tie

@@ -1,5 +1,5 @@
 -- `optimizer::dots::block_of` meets its contract. Assumes nothing.
-use Rattle.optimizer.specs.Plate.{blockOf}
+use Rattle.optimizer.specs.Problem.{blockOf}
 use borrow.Author.Needs.{needs}
 use Rattle.optimizer.proofs.dots.block_of.Statement.{statement}
 use Rattle.optimizer.proofs.dots.block_of.Tie as tie

@@ -1,5 +1,5 @@
 -- `optimizer::dots::project` meets its contract. Assumes nothing.
-use Rattle.optimizer.specs.Plate.{project}
+use Rattle.optimizer.specs.Problem.{project}
 use borrow.Author.Tests.{eq-eqb, ne-eqb}
 use borrow.Author.Needs.{needs}
 use Rattle.optimizer.proofs.dots.project.Statement.{statement}

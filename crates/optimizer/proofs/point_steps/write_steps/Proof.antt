@@ -2,7 +2,7 @@
 use lib.ListN.{length, set}
 use lib.Seq.{lt-length-set}
 use Rattle.schur.specs.declared.point_step.PointStep.{PointStep}
-use Rattle.optimizer.specs.Plate.{plate}
+use Rattle.optimizer.specs.Problem.{problem}
 use Rattle.optimizer.specs.Step.{sumsTo}
 use Rattle.optimizer.proofs.Passes.{stepped-at, Filled, room-none, room-length, room-next, room-full, sums-none, squared-next, norm-next, both-sums}
 use Rattle.optimizer.specs.declared.point_steps.Sums.{Sums}
@@ -14,16 +14,16 @@ use Rattle.optimizer.proofs.point_steps.write_steps.Statement.{statemen
 use Rattle.optimizer.proofs.point_steps.write_steps.Tie as tie
 
 abbrev Inv-loop : tie.InvT-loop
-Inv-loop points view1 view2 inverse-deviations head damping pose-step room₀ squared₀ damping-norm₀ i₀ i-end room squared damping-norm i =
+Inv-loop points view1 view2 inverse-deviations rig damping pose-step room₀ squared₀ damping-norm₀ i₀ i-end room squared damping-norm i =
     (i ≤ i-end)
     × (i-end ≡ length inverse-deviations)
     × (length room ≡ length room₀)
-    × Filled (plate points view1 view2 inverse-deviations head damping) pose-step room₀ i room
-    × (squared ≡ sumsTo (plate points view1 view2 inverse-deviations head damping) pose-step i .squared)
-    × (damping-norm ≡ sumsTo (plate points view1 view2 inverse-deviations head damping) pose-step i .«damping_norm»)
+    × Filled (problem points view1 view2 inverse-deviations rig damping) pose-step room₀ i room
+    × (squared ≡ sumsTo (problem points view1 view2 inverse-deviations rig damping) pose-step i .squared)
+    × (damping-norm ≡ sumsTo (problem points view1 view2 inverse-deviations rig damping) pose-step i .«damping_norm»)
 
 abbrev μ-loop : tie.MeasureT-loop
-μ-loop points view1 view2 inverse-deviations head damping pose-step room₀ squared₀ damping-norm₀ i₀ i-end room squared damping-norm i = i-end - i
+μ-loop points view1 view2 inverse-deviations rig damping pose-step room₀ squared₀ damping-norm₀ i₀ i-end room squared damping-norm i = i-end - i
 
 loop-holds : tie.Need-loop-holds Inv-loop μ-loop
 loop-holds c = (omega arith, refl, refl, room-none _ _ _, ap (λ (t : Sums). t .squared) (sym (sums-none _ _)), ap (λ (t : Sums). t .«damping_norm») (sym (sums-none _ _)))
@@ -45,7 +45,7 @@ loop-again c =
     let m = c .before in
     let l = m .before .before .before .before .before in
     let a = l .before .before .before .before .before .before .args in
-    let p = plate (a .points .now) (a .view1 .now) (a .view2 .now) (a .inverse-deviations .now) (a .head) (a .damping) in
+    let p = problem (a .points .now) (a .view1 .now) (a .view2 .now) (a .inverse-deviations .now) (a .rig) (a .damping) in
     let s = a .pose-step in
     let i = l .loop .i in
     let moved = m .before .before .point-step .result in
@@ -65,7 +65,7 @@ returns : tie.Need-returns Inv-loop μ-loop
 returns c =
     let l = c .before in
     let a = l .before .before .before .before .before .before .args in
-    let p = plate (a .points .now) (a .view1 .now) (a .view2 .now) (a .inverse-deviations .now) (a .head) (a .damping) in
+    let p = problem (a .points .now) (a .view1 .now) (a .view2 .now) (a .inverse-deviations .now) (a .rig) (a .damping) in
     let n : l .loop .i ≡ length (a .inverse-deviations .now) = omega arith in
     (both-sums p (a .pose-step) _ _ _ _ n (l .loop .inv .4) (l .loop .inv .5), room-full p (a .pose-step) _ _ _ _ (l .loop .inv .3) n (omega arith))
 

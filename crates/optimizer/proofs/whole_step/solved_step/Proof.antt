@@ -1,6 +1,6 @@
 -- `optimizer::whole_step::solved_step` meets its contract. Assumes nothing.
 use Rattle.optimizer.proofs.Whole.{not-valid, not-solved, solves}
-use Rattle.optimizer.specs.Plate.{plate}
+use Rattle.optimizer.specs.Problem.{problem}
 use borrow.Author.Needs.{needs}
 use Rattle.optimizer.proofs.whole_step.solved_step.Statement.{statement}
 use Rattle.optimizer.proofs.whole_step.solved_step.Tie as tie
@@ -9,7 +9,7 @@ returns : tie.Need-returns
 returns c =
     let v = c .before .before .before in
     let a = v .before .before .before .before .before .before .before .args in
-    not-valid (plate (a .points .now) (a .view1 .now) (a .view2 .now) (a .inverse-deviations .now) (a .head) (a .damping)) _ _ _ (v .before .reduced-system .ensures) _ (v .is-valid .ensures) (c .before .before .if1 .taken) _ (c .before .of .ensures) (c .not-stepped .ensures)
+    not-valid (problem (a .points .now) (a .view1 .now) (a .view2 .now) (a .inverse-deviations .now) (a .rig) (a .damping)) _ _ _ (v .before .damped-system .ensures) _ (v .is-valid .ensures) (c .before .before .if1 .taken) _ (c .before .of .ensures) (c .not-stepped .ensures)
 
 returns-2 : tie.Need-returns-2
 returns-2 c =
@@ -17,7 +17,7 @@ returns-2 c =
     let one = k .before .before .before .before .before in
     let v = one .before in
     let a = v .before .before .before .before .before .before .before .args in
-    not-solved (plate (a .points .now) (a .view1 .now) (a .view2 .now) (a .inverse-deviations .now) (a .head) (a .damping)) _ _ _ (v .before .reduced-system .ensures) _ (v .is-valid .ensures) (one .if1 .left) _ (k .before .before .solve-positive-definite .ensures) _ (k .is-none .ensures) (c .before .before .if2 .taken) _ (c .before .of2 .ensures) (c .not-stepped2 .ensures)
+    not-solved (problem (a .points .now) (a .view1 .now) (a .view2 .now) (a .inverse-deviations .now) (a .rig) (a .damping)) _ _ _ (v .before .damped-system .ensures) _ (v .is-valid .ensures) (one .if1 .left) _ (k .before .before .solve-positive-definite .ensures) _ (k .is-none .ensures) (c .before .before .if2 .taken) _ (c .before .of2 .ensures) (c .not-stepped2 .ensures)
 
 same-length : tie.Need-same-length
 same-length c = search needs
@@ -30,7 +30,7 @@ returns-3 c =
     let one = k .before .before .before .before .before in
     let v = one .before in
     let a = v .before .before .before .before .before .before .before .args in
-    solves (plate (a .points .now) (a .view1 .now) (a .view2 .now) (a .inverse-deviations .now) (a .head) (a .damping)) _ _ _ (v .before .reduced-system .ensures) _ (v .is-valid .ensures) (one .if1 .left) _ (k .before .before .solve-positive-definite .ensures) _ (k .is-none .ensures) (two .if2 .left) _ (w .before .before .pose-step .ensures) _ (c .finished .ensures) _ (w .write-steps .ensures)
+    solves (problem (a .points .now) (a .view1 .now) (a .view2 .now) (a .inverse-deviations .now) (a .rig) (a .damping)) _ _ _ (v .before .damped-system .ensures) _ (v .is-valid .ensures) (one .if1 .left) _ (k .before .before .solve-positive-definite .ensures) _ (k .is-none .ensures) (two .if2 .left) _ (w .before .before .pose-step .ensures) _ (c .finished .ensures) _ (w .write-steps .ensures)
 
 pub solved-step-spec : {M : Type 1} → statement M
 solved-step-spec =

@@ -1,6 +1,6 @@
 -- `optimizer::whole_step::step` meets its contract. Assumes nothing.
-use Rattle.optimizer.proofs.Whole.{checked, passed, room-fits, wrong-room, plate-refused, done}
-use Rattle.optimizer.specs.Plate.{plate}
+use Rattle.optimizer.proofs.Whole.{checked, passed, room-fits, wrong-room, checks-refused, done}
+use Rattle.optimizer.specs.Problem.{problem}
 use borrow.Author.Needs.{needs}
 use Rattle.optimizer.proofs.whole_step.step.Statement.{statement}
 use Rattle.optimizer.proofs.whole_step.step.Tie as tie
@@ -9,7 +9,7 @@ returns : tie.Need-returns
 returns c =
     let b = c .before .before .before in
     let a = b .before .before .before .before .before .before .args in
-    wrong-room (plate (a .points .now) (a .view1 .now) (a .view2 .now) (a .inverse-deviations .now) (a .head) (a .damping)) (a .room .now) _ _ (b .belongs .ensures) (c .before .before .if1 .taken) _ (c .before .of .ensures) (c .not-stepped .ensures)
+    wrong-room (problem (a .points .now) (a .view1 .now) (a .view2 .now) (a .inverse-deviations .now) (a .rig) (a .damping)) (a .room .now) _ _ (b .belongs .ensures) (c .before .before .if1 .taken) _ (c .before .of .ensures) (c .not-stepped .ensures)
 
 returns-2 : tie.Need-returns-2
 returns-2 c =
@@ -17,7 +17,7 @@ returns-2 c =
     let one = k .before .before in
     let b = one .before in
     let a = b .before .before .before .before .before .before .args in
-    plate-refused (plate (a .points .now) (a .view1 .now) (a .view2 .now) (a .inverse-deviations .now) (a .head) (a .damping)) (a .room .now) _ _ (b .belongs .ensures) (one .if1 .left) _ (k .before .refused .ensures) _ (k .is-none .ensures) (c .before .if2 .taken) (c .not-stepped2 .ensures)
+    checks-refused (problem (a .points .now) (a .view1 .now) (a .view2 .now) (a .inverse-deviations .now) (a .rig) (a .damping)) (a .room .now) _ _ (b .belongs .ensures) (one .if1 .left) _ (k .before .refused .ensures) _ (k .is-none .ensures) (c .before .if2 .taken) (c .not-stepped2 .ensures)
 
 same-length : tie.Need-same-length
 same-length c = search needs
@@ -29,7 +29,7 @@ returns-3 c =
     let one = k .before .before in
     let b = one .before in
     let a = b .before .before .before .before .before .before .args in
-    done (plate (a .points .now) (a .view1 .now) (a .view2 .now) (a .inverse-deviations .now) (a .head) (a .damping)) (a .room .now) _ _ (b .belongs .ensures) (one .if1 .left) _ (k .before .refused .ensures) _ (k .is-none .ensures) (two .if2 .left) _ (c .before .before .solved-step .ensures)
+    done (problem (a .points .now) (a .view1 .now) (a .view2 .now) (a .inverse-deviations .now) (a .rig) (a .damping)) (a .room .now) _ _ (b .belongs .ensures) (one .if1 .left) _ (k .before .refused .ensures) _ (k .is-none .ensures) (two .if2 .left) _ (c .before .before .solved-step .ensures)
 
 solved-step-requires : tie.Need-solved-step-requires
 solved-step-requires c κs =
@@ -38,7 +38,7 @@ solved-step-requires c κs =
     let one = k .before .before in
     let b = one .before in
     let a = b .before .before .before .before .before .before .args in
-    let p = plate (a .points .now) (a .view1 .now) (a .view2 .now) (a .inverse-deviations .now) (a .head) (a .damping) in
+    let p = problem (a .points .now) (a .view1 .now) (a .view2 .now) (a .inverse-deviations .now) (a .rig) (a .damping) in
     (checked p (passed _ _ _ (k .before .refused .ensures) (k .is-none .ensures) (two .if2 .left)) .0, room-fits _ _ _ (b .belongs .ensures) (one .if1 .left))
 
 pub step-spec : {M : Type 1} → statement M

@@ -5,9 +5,9 @@ use Prim.Native.Nat.{ℕ, suc, _+_, _-_, _≤_, _<_}
 use native.Mathlib.Numerals.{add-one}
 use native.Mathlib.Omega.{arith}
 use borrow.Author.Tests.{not-true, not-false}
 use Rattle.refusal.specs.Refused.{at, none, isRowNone, isNone}
 use Rattle.refusal.specs.declared.Refusal.{Refusal}
-use Rattle.optimizer.specs.Checks.{unless, orElse, first}
+use Rattle.refusal.specs.First.{unless, orElse, first}
 
 -- ---- one after the other: the check x gives v, and s follows it
 

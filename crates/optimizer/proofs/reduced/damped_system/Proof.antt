@@ -1,20 +1,20 @@
--- `optimizer::whole_step::reduced_system` meets its contract. Assumes nothing.
+-- `optimizer::reduced::damped_system` meets its contract. Assumes nothing.
 use lib.ListN.{length}
-use Rattle.optimizer.specs.Plate.{plate}
+use Rattle.optimizer.specs.Problem.{problem}
 use Rattle.optimizer.specs.Step.{systemTo}
 use Rattle.optimizer.proofs.Passes.{system-none, system-next, system-all}
 use mathlib.Core.Path.{_≡_, refl}
 use Prim.Native.Nat.{_-_, _≤_}
 use native.Mathlib.Omega.{arith}
 use borrow.Author.Needs.{needs}
-use Rattle.optimizer.proofs.whole_step.reduced_system.Statement.{statement}
-use Rattle.optimizer.proofs.whole_step.reduced_system.Tie as tie
+use Rattle.optimizer.proofs.reduced.damped_system.Statement.{statement}
+use Rattle.optimizer.proofs.reduced.damped_system.Tie as tie
 
 abbrev Inv-loop : tie.InvT-loop
-Inv-loop points view1 view2 inverse-deviations head damping system₀ i₀ i-end system i = (i ≤ i-end) × (i-end ≡ length inverse-deviations) × (system ≡ systemTo (plate points view1 view2 inverse-deviations head damping) i)
+Inv-loop points view1 view2 inverse-deviations rig damping system₀ i₀ i-end system i = (i ≤ i-end) × (i-end ≡ length inverse-deviations) × (system ≡ systemTo (problem points view1 view2 inverse-deviations rig damping) i)
 
 abbrev μ-loop : tie.MeasureT-loop
-μ-loop points view1 view2 inverse-deviations head damping system₀ i₀ i-end system i = i-end - i
+μ-loop points view1 view2 inverse-deviations rig damping system₀ i₀ i-end system i = i-end - i
 
 loop-holds : tie.Need-loop-holds Inv-loop μ-loop
 loop-holds c = (omega arith, refl, system-none _ _ (c .new .ensures))
@@ -35,8 +35,8 @@ returns c =
     let l = c .before .before .before in
     system-all _ _ _ _ (l .loop .inv .2) (omega arith) (c .before .finish-damping .ensures)
 
-pub reduced-system-spec : {M : Type 1} → statement M
-reduced-system-spec =
+pub damped-system-spec : {M : Type 1} → statement M
+damped-system-spec =
     tie.close
     (tie.spec
     Inv-loop

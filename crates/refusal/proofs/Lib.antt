@@ -1,0 +1,2 @@
+-- Laws of the first refusal of several.
+pub mod Scans
