@@ -3,18 +3,21 @@
  * Compiles as C99 and as C++.
  *
  * Numbers are binary64, and vectors and matrices flat arrays, row by row. Each array passes as a pointer and
- * then its length. An array may not overlap `out`.
+ * then its length. An array may not overlap one that the call writes: `out`, or a system that it changes.
  *
  * A call with an `out` answers 0 and writes its result there, or answers a refusal as one number and writes
- * nothing. The refusal's parts are below: the number of the row, and the view and the index, 0 where they have
+ * nothing; so does a call that changes a system. The refusal's parts are below: the number of the row, and the view and the index, 0 where they have
  * no sense. An array whose length is not the one that is named beside it here is row 1. No call has any other
  * condition: every input ends in a result or in a refusal.
  *
  *   row  1  a length does not fit
  *   row  3  damping not finite or below 0
+ *   row  4  inverse deviation not finite or not above 0
  *   row  9  the point is not projectable
  *   row 10  the block does not factor
  *   row 11  the system of five equations is not solved
+ *   row 12  the system's weak count is above its block count
+ *   row 13  the system has 65,535 blocks already
  */
 #ifndef PIXEL_STEP_H
 #define PIXEL_STEP_H
@@ -85,6 +88,57 @@ uint64_t pixel_step_reciprocal_condition_number(const double *inverse, size_t in
 uint64_t pixel_step_solve_positive_definite(const double *a, size_t a_length,
                                             const double *b, size_t b_length,
                                             double *out, size_t out_length);
+
+/*
+ * The block of a point: what it adds to the system. Rows 4, 9; row 9 has view 1 or 2.
+ * head (29): camera 1 and camera 2, 5 each; rotation, 9; translation, 3; two basis vectors, 3 each; baseline
+ * dot (8): point, 3; where view 1 and view 2 saw it, 2 each; inverse deviation
+ * out (59), a block: pose Hessian, 25; cross Hessian, 15; point Hessian, 9; pose gradient, 5; point gradient, 3;
+ * cost; squared residual
+ */
+uint64_t pixel_step_linearize_point(const double *head, size_t head_length,
+                                    const double *dot, size_t dot_length,
+                                    double *out, size_t out_length);
+
+/* How a point moves with a step of the pose. Rows 3, 10. block (59); pose_step (5); out: step, damping norm (4) */
+uint64_t pixel_step_point_step_with_damping_norm(const double *block, size_t block_length, double damping,
+                                                 const double *pose_step, size_t pose_step_length,
+                                                 double *out, size_t out_length);
+
+/*
+ * The reduced system has two arrays.
+ * system (45): Hessian, 25; gradient, 5; cost; squared residual; full pose gradient, 5; pose diagonal, 5;
+ * point model reduction; largest scaled point gradient; smallest rcond
+ * counts (3): weak count; block count; flag, 0 for false and anything else for true, written as 0 or 1
+ */
+
+/* A new system. */
+uint64_t pixel_step_system_new(double *system, size_t system_length, uint16_t *counts, size_t counts_length);
+
+/* Takes a block in. Rows 3, 12, 13. block (59) */
+uint64_t pixel_step_system_add(double *system, size_t system_length, uint16_t *counts, size_t counts_length,
+                               const double *block, size_t block_length, double damping);
+
+/* Adds the damping to the Hessian's diagonal. Row 3. */
+uint64_t pixel_step_system_finish_damping(double *system, size_t system_length,
+                                          uint16_t *counts, size_t counts_length, double damping);
+
+/* Whether the flag is true, and gradient and Hessian are finite. out: 0 or 1 (1) */
+uint64_t pixel_step_system_is_valid(const double *system, size_t system_length,
+                                    const uint16_t *counts, size_t counts_length,
+                                    uint16_t *out, size_t out_length);
+
+/* The largest scaled gradient entry of all points and of the pose. out (1) */
+uint64_t pixel_step_system_scaled_gradient_inf_norm(const double *system, size_t system_length,
+                                                    const uint16_t *counts, size_t counts_length,
+                                                    double *out, size_t out_length);
+
+/* What a step of the pose is predicted to gain. Row 3. step (5); out (1) */
+uint64_t pixel_step_system_predicted_reduction(const double *system, size_t system_length,
+                                               const uint16_t *counts, size_t counts_length,
+                                               const double *step, size_t step_length,
+                                               double damping, double point_damping_norm,
+                                               double *out, size_t out_length);
 
 #ifdef __cplusplus
 }

@@ -2,18 +2,20 @@
 use mathlib.Core.Path.{_≡_, refl, sym, ap, _∙_}
 use mathlib.Core.Bool.{Bool, true, false, not, _&&_, true≢false}
 use mathlib.Core.List.{List, [], _∷_, _++_, append-nil}
-use Prim.Native.Nat.{ℕ, zero, suc, _+_, _≤_, _<_}
+use Prim.Native.Nat.{ℕ, zero, suc, _+_, _-_, _≤_}
 use native.Mathlib.Numerals.{add-one}
 use native.Mathlib.Omega.{arith}
 use borrow.Author.Tests.{not-true, not-false, eqb-true}
 use lib.Dec.{eqb}
-use lib.ListN.{length, take, drop, set}
-use lib.Seq.{drop-cons, take-length, take-suc, set-at, length-take-le, append-snoc, drop-length}
+use lib.ListN.{length, length-append, length-drop, getD, take, drop, set, drop-of-length-le}
+use lib.Seq.{paste, drop-cons, take-length, take-at, drop-append-add, drop-length}
 use lib.Ieee.{Float, nan}
 use Rattle.number.specs.Vectors.{_!_}
-use Rattle.refusal.specs.Refused.{isNone}
+use Rattle.refusal.specs.Refused.{none, isNone}
 use Rattle.refusal.specs.declared.Refusal.{Refusal}
-use Rattle.pixel_step.specs.Interface.{code, lengthsCode, stored, answer, Answered}
+use Rattle.schur.specs.declared.system.ReducedSystem.{ReducedSystem}
+use Rattle.pixel_step.specs.Flat.{part, put, system, systemNumbers, systemCounts}
+use Rattle.pixel_step.specs.Interface.{code, lengthsCode, stored, answer, Answered, change, Changed}
 
 -- ---- reading
 
@@ -30,44 +32,124 @@ entries-part l (suc n) i h =
 pub whole : (l : List Float) (n : ℕ) → length l ≡ n → entries l 0 n ≡ l
 whole l n e = entries-part l n 0 (omega arith) ∙ ap (λ (k : ℕ). take k l) (sym e) ∙ take-length l
 
--- ---- storing, entry by entry
+-- the system that four parts and the single numbers make
+pub system-of : (x : List Float) (counts : List ℕ) (h g f d : List Float) → h ≡ part 0 25 x → g ≡ part 25 30 x → f ≡ part 32 37 x → d ≡ part 37 42 x
+    → _≡_ {A = ReducedSystem} (record {
+      hessian = h;
+      gradient = g;
+      cost = x ! 30;
+      «squared_residual» = x ! 31;
+      «full_pose_gradient» = f;
+      «pose_diagonal» = d;
+      «point_model_reduction» = x ! 42;
+      «scaled_point_gradient_inf_norm» = x ! 43;
+      «weak_point_count» = getD counts 0 0;
+      «minimum_point_rcond» = x ! 44;
+      valid = not (eqb (getD counts 2 0) 0);
+      «block_count» = getD counts 1 0;
+    }) (system x counts)
+unfolding system
+system-of x counts h g f d p q r s = rw (p, q, r, s) refl
 
-pub store-next : (v o : List Float) (i : ℕ) → length v ≡ length o → i < length v → set (take i v ++ drop i o) i (v ! i) ≡ take (i + 1) v ++ drop (i + 1) o
-store-next v o i e h =
-    ap (λ (t : List Float). set (take i v ++ t) i (v ! i)) (drop-cons o i nan (omega arith))
-    ∙ set-at (take i v) (o ! i) (drop (suc i) o) (v ! i) i (length-take-le i v (omega arith))
-    ∙ sym (ap (λ (k : ℕ). take k v ++ drop k o) (add-one i) ∙ ap (λ (t : List Float). t ++ drop (suc i) o) (take-suc v i nan h) ∙ append-snoc (take i v) (v ! i) (drop (suc i) o))
+-- ---- writing
 
-pub store-all : (v o : List Float) (i : ℕ) → length v ≡ length o → i ≡ length v → take i v ++ drop i o ≡ v
-store-all v o i e k =
-    ap (λ (n : ℕ). take n v ++ drop n o) k
-    ∙ ap (λ (t : List Float). t ++ drop (length v) o) (take-length v)
-    ∙ ap (λ (n : ℕ). v ++ drop n o) e
+-- as many values as there is room for
+pub put-all : (v o : List Float) → length v ≡ length o → put v 0 o ≡ v
+unfolding put
+put-all v o e =
+    let n : 0 + length v ≡ length o = omega arith in
+    ap (λ (t : List Float). t ++ drop (0 + length v) o) (take-length v)
+    ∙ ap (λ (n : ℕ). v ++ drop n o) n
     ∙ ap (λ (t : List Float). v ++ t) (drop-length o)
     ∙ append-nil v
 
-module _ (r : Refusal) (values out : List Float) (b : Bool) (e : b ≡ isNone r) where
+-- p was put so far, and q stands behind it
+pub record Put (x p q : List Float) (at left : ℕ) : Type 0 where
+  same : x ≡ p ++ q
+  before : length p ≡ at
+  behind : length q ≡ left
+
+pub put-none : (x : List Float) (n : ℕ) → length x ≡ n → Put x [] x 0 n
+put-none x n e = record { same = refl; before = refl; behind = e }
+
+module _ (x p q y v : List Float) (at left n : ℕ) (h : Put x p q at left) (l : length v ≡ n) (e : y ≡ put v at x) where
+  put-behind : y ≡ p ++ v ++ drop n q
+  unfolding put
+  put-behind =
+      e
+      ∙ ap (λ (t : List Float). paste t at v (length v)) (h .same)
+      ∙ ap (λ (t : List Float). t ++ take (length v) v ++ drop (at + length v) (p ++ q)) (take-at p q at (h .before))
+      ∙ ap (λ (t : List Float). p ++ t ++ drop (at + length v) (p ++ q)) (take-length v)
+      ∙ ap (λ (m : ℕ). p ++ v ++ drop (m + length v) (p ++ q)) (sym (h .before))
+      ∙ ap (λ (t : List Float). p ++ v ++ t) (drop-append-add p q (length v))
+      ∙ ap (λ (m : ℕ). p ++ v ++ drop m q) l
+
+  pub put-next : Put y (p ++ v) (drop n q) (at + n) (left - n)
+  put-next = record {
+    same = put-behind;
+    before = length-append p v ∙ ap (λ (m : ℕ). m + length v) (h .before) ∙ ap (λ (m : ℕ). at + m) l;
+    behind = length-drop n q ∙ ap (λ (m : ℕ). m - n) (h .behind);
+  }
+
+  pub put-last : left ≡ n → y ≡ p ++ v
+  put-last k =
+      let m : length q ≤ n = omega (arith, h .behind, k) in
+      put-behind ∙ ap (λ (t : List Float). p ++ v ++ t) (drop-of-length-le q m) ∙ append-nil (p ++ v)
+
+module _ {A : Type 0} (r : Refusal) (values out : List A) (b : Bool) (e : b ≡ isNone r) where
   pub stored-none : not b ≡ true → out ≡ stored r values out
   unfolding stored
   stored-none t = rw (← e, not-true b t) refl
 
-  pub stored-some : (after : List Float) → not b ≡ false → after ≡ values → after ≡ stored r values out
+  pub stored-some : (after : List A) → not b ≡ false → after ≡ values → after ≡ stored r values out
   unfolding stored
   stored-some after t k = rw (← e, not-false b t) k
 
 -- ---- answering
 
 -- row 1
-pub too-short : (fits : Bool) (refusal : Refusal) (values out : List Float) (number : ℕ) → not fits ≡ true → number ≡ lengthsCode → Answered number out (answer fits refusal values out)
+pub too-short : {A : Type 0} (fits : Bool) (refusal : Refusal) (values out : List A) (number : ℕ) → not fits ≡ true → number ≡ lengthsCode → Answered number out (answer fits refusal values out)
 unfolding answer
 too-short fits refusal values out number t e = rw (not-true fits t) (record { same-number = e; same-out = refl })
 
 -- the call's own answer
-pub answers : (fits : Bool) (refusal r : Refusal) (values v out after : List Float) (number : ℕ) → not fits ≡ false → r ≡ refusal → v ≡ values
+pub answers : {A : Type 0} (fits : Bool) (refusal r : Refusal) (values v out after : List A) (number : ℕ) → not fits ≡ false → r ≡ refusal → v ≡ values
     → (number ≡ code r) × (after ≡ stored r v out) → Answered number after (answer fits refusal values out)
 unfolding answer
 answers fits refusal r values v out after number t p q e =
-    rw (not-false fits t) (record { same-number = e .0 ∙ ap code p; same-out = e .1 ∙ ap (λ (x : Refusal). stored x v out) p ∙ ap (λ (x : List Float). stored refusal x out) q })
+    rw (not-false fits t) (record { same-number = e .0 ∙ ap code p; same-out = e .1 ∙ ap (λ (x : Refusal). stored x v out) p ∙ ap (λ (x : List _). stored refusal x out) q })
+
+-- the answer of a call that refuses nothing
+pub answers-none : {A : Type 0} (fits : Bool) (values out after : List A) (number : ℕ) → not fits ≡ false → number ≡ code none → after ≡ values
+    → Answered number after (answer fits none values out)
+unfolding answer stored isNone
+answers-none fits values out after number t p q = rw (not-false fits t) (record { same-number = p; same-out = q })
+
+-- the same of a call that changes a system
+pub too-short-system : (fits : Bool) (refusal : Refusal) (s : ReducedSystem) (x : List Float) (counts : List ℕ) (number : ℕ) → not fits ≡ true
+    → number ≡ lengthsCode → Changed number x counts (change fits refusal s x counts)
+unfolding change
+too-short-system fits refusal s x counts number t e = rw (not-true fits t) (record { same-number = e; same-numbers = refl; same-counts = refl })
+
+pub changes : (fits : Bool) (refusal r : Refusal) (s t : ReducedSystem) (x after : List Float) (counts now : List ℕ) (number : ℕ) → not fits ≡ false
+    → r ≡ refusal → t ≡ s → (number ≡ code r) × (after ≡ stored r (systemNumbers t) x) × (now ≡ stored r (systemCounts t) counts)
+    → Changed number after now (change fits refusal s x counts)
+unfolding change
+changes fits refusal r s t x after counts now number f p q e =
+    rw (not-false fits f, ← p, ← q) (record { same-number = e .0; same-numbers = e .1; same-counts = e .2 })
+
+pub one-set : (l : List ℕ) (a : ℕ) → length l ≡ 1 → set l 0 a ≡ a ∷ []
+one-set [] a e = absurd (omega (arith, e))
+one-set (x ∷ []) a e = refl
+one-set (x ∷ y ∷ l) a e = absurd (omega (arith, e))
+
+-- three counts, written one by one
+pub three-set : (l : List ℕ) (a b c : ℕ) → length l ≡ 3 → set (set (set l 0 a) 1 b) 2 c ≡ a ∷ b ∷ c ∷ []
+three-set [] a b c e = absurd (omega (arith, e))
+three-set (x ∷ []) a b c e = absurd (omega (arith, e))
+three-set (x ∷ y ∷ []) a b c e = absurd (omega (arith, e))
+three-set (x ∷ y ∷ z ∷ []) a b c e = refl
+three-set (x ∷ y ∷ z ∷ w ∷ l) a b c e = absurd (omega (arith, e))
 
 -- the lengths, from the test of all of them
 last-fits : (p : Bool) (b n : ℕ) → not (p && eqb b n) ≡ false → (not p ≡ false) × (b ≡ n)

@@ -1,6 +1,8 @@
 // Lent slices as small arrays, and an answer stored in one.
 ghost use mathlib.Core.Path.{_≡_};
+ghost use Prim.Native.Nat.{_+_, _≤_};
 ghost use lib.ListN.{length};
+ghost use Rattle.pixel_step.specs.Flat as Flat;
 ghost use Rattle.pixel_step.specs.Interface as Interface;
 use refusal::Refusal;
 
@@ -27,16 +29,17 @@ pub(crate) fn answer(refusal: Refusal, values: &[f64], out: &mut [f64]) -> u64
     if !refusal.is_none() {
         return code(refusal);
     }
-    store(values, out);
+    put(values, 0, out);
     code(refusal)
 }
 
-fn store(values: &[f64], out: &mut [f64])
-    requires { ⌜ length (now values) ≡ length (now out) ⌝ }
-    ensures { λ _. ⌜ now (out .exit) ≡ now (values .entry) ⌝ }
+// Copies the values to `out`, from `start` on.
+pub(crate) fn put(values: &[f64], start: usize, out: &mut [f64])
+    requires { ⌜ start + length (now values) ≤ length (now out) ⌝ }
+    ensures { λ _. ⌜ now (out .exit) ≡ Flat.put (now (values .entry)) start (now (out .entry)) ⌝ }
 {
     for i in 0..values.len() {
-        out[i] = values[i];
+        out[start + i] = values[i];
     }
 }
 
@@ -73,6 +76,29 @@ pub(crate) fn vector9(x: &[f64]) -> [f64; 9]
     ensures { λ r. ⌜ r ≡ now (x .entry) ⌝ }
 {
     [x[0], x[1], x[2], x[3], x[4], x[5], x[6], x[7], x[8]]
+}
+
+pub(crate) fn vector15(x: &[f64]) -> [f64; 15]
+    requires { ⌜ length (now x) ≡ 15 ⌝ }
+    ensures { λ r. ⌜ r ≡ now (x .entry) ⌝ }
+{
+    [
+        x[0],
+        x[1],
+        x[2],
+        x[3],
+        x[4],
+        x[5],
+        x[6],
+        x[7],
+        x[8],
+        x[9],
+        x[10],
+        x[11],
+        x[12],
+        x[13],
+        x[14],
+    ]
 }
 
 pub(crate) fn vector25(x: &[f64]) -> [f64; 25]

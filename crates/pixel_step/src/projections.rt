@@ -1,7 +1,7 @@
 // The projection.
 ghost use Rattle.pixel_step.specs.Interface as Interface;
+use crate::flat;
 use crate::memory;
-use projection::PinholeCamera;
 
 // camera: fx, fy, cx, cy, skew; observation: 2; point: 3; out: residual 2, Jacobian 6
 #[no_mangle]
@@ -17,16 +17,8 @@ pub extern "C" fn pixel_step_pixel_projection(
     if !((camera.len() == 5) & (observation.len() == 2) & (point.len() == 3) & (out.len() == 8)) {
         return memory::lengths();
     }
-    let c = memory::vector5(camera);
-    let lens = PinholeCamera {
-        fx: c[0],
-        fy: c[1],
-        cx: c[2],
-        cy: c[3],
-        skew: c[4],
-    };
     let p = projection::pixel_projection(
-        lens,
+        flat::camera(camera),
         memory::vector2(observation),
         memory::vector3(point),
     );

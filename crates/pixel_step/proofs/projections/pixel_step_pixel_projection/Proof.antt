@@ -6,7 +6,9 @@ use lib.Ieee.{Float}
 use Rattle.projection.specs.Projection as Projection
 use Rattle.projection.specs.declared.Projected.{Projected}
 use Rattle.number.specs.Vectors.{_!_}
-use Rattle.pixel_step.specs.Interface.{camera, pixelProjection}
+use Rattle.projection.specs.declared.PinholeCamera.{PinholeCamera}
+use Rattle.pixel_step.specs.Flat.{camera}
+use Rattle.pixel_step.specs.Interface.{pixelProjection}
 use Rattle.pixel_step.proofs.Laws.{too-short, answers, four-fit}
 use borrow.Author.Needs.{needs}
 use Rattle.pixel_step.proofs.projections.pixel_step_pixel_projection.Statement.{statement}
@@ -19,8 +21,8 @@ returns : tie.Need-returns
 unfolding pixelProjection
 returns c = too-short _ _ _ _ _ (c .before .if1 .taken) (c .lengths .ensures)
 
-vector5-requires : tie.Need-vector5-requires
-vector5-requires c κs = fit c .0
+camera-requires : tie.Need-camera-requires
+camera-requires c κs = fit c .0
 
 vector2-requires : tie.Need-vector2-requires
 vector2-requires c κs = fit (c .before) .1
@@ -34,14 +36,15 @@ answer-requires c κs = sym (fit (c .before .before .before .before .before .bef
 returns-2 : tie.Need-returns-2
 unfolding pixelProjection
 returns-2 c =
-    let a = c .before .before in
-    let start = a .before .before .before .before .before .before .before .before .before .before .before .before .before .before .before in
+    let start = c .before .before .before .before .before .before .before .before .before .before .before .before .before .before .before .before .before in
+    let two = c .before .before .before .before .before .before .before .before .before .before .vector2 in
+    let three = c .before .before .before .before .before .before .before .before .before .vector3 in
     let e =
-    a .before .before .before .before .before .before .pixel-projection .ensures
-    ∙ ap (λ (l : List Float). Projection.pixelProjection (camera l) (a .before .before .before .before .before .before .before .before .vector2 .result) (a .before .before .before .before .before .before .before .vector3 .result)) (a .before .before .before .before .before .before .before .before .before .vector5 .ensures)
-    ∙ ap (λ (l : List Float). Projection.pixelProjection (camera (start .args .camera .now)) l (a .before .before .before .before .before .before .before .vector3 .result)) (a .before .before .before .before .before .before .before .before .vector2 .ensures)
-    ∙ ap (λ (l : List Float). Projection.pixelProjection (camera (start .args .camera .now)) (start .args .observation .now) l) (a .before .before .before .before .before .before .before .vector3 .ensures) in
-    answers _ _ _ _ _ _ _ _ (a .before .before .before .before .before .before .before .before .before .before .if1 .left) (ap (λ (d : Projected). d .refusal) e) (ap (λ (d : Projected). d .residual ! 0 ∷ d .residual ! 1 ∷ d .jacobian ! 0 ∷ d .jacobian ! 1 ∷ d .jacobian ! 2 ∷ d .jacobian ! 3 ∷ d .jacobian ! 4 ∷ d .jacobian ! 5 ∷ []) e) (a .answer .ensures)
+    c .before .before .before .before .before .before .before .before .pixel-projection .ensures
+    ∙ ap (λ (x : PinholeCamera). Projection.pixelProjection x (two .result) (three .result)) (c .before .before .before .before .before .before .before .before .before .before .before .camera .ensures)
+    ∙ ap (λ (l : List Float). Projection.pixelProjection (camera (start .args .camera .now)) l (three .result)) (two .ensures)
+    ∙ ap (λ (l : List Float). Projection.pixelProjection (camera (start .args .camera .now)) (start .args .observation .now) l) (three .ensures) in
+    answers _ _ _ _ _ _ _ _ (c .before .before .before .before .before .before .before .before .before .before .before .before .if1 .left) (ap (λ (d : Projected). d .refusal) e) (ap (λ (d : Projected). d .residual ! 0 ∷ d .residual ! 1 ∷ d .jacobian ! 0 ∷ d .jacobian ! 1 ∷ d .jacobian ! 2 ∷ d .jacobian ! 3 ∷ d .jacobian ! 4 ∷ d .jacobian ! 5 ∷ []) e) (c .before .before .answer .ensures)
 
 pub pixel-step-pixel-projection-spec : {M : Type 1} → statement M
 pixel-step-pixel-projection-spec =
@@ -49,12 +52,7 @@ pixel-step-pixel-projection-spec =
     (tie.spec
     (λ c κs. search needs)
     returns
-    vector5-requires
-    (λ c. search needs)
-    (λ c. search needs)
-    (λ c. search needs)
-    (λ c. search needs)
-    (λ c. search needs)
+    camera-requires
     vector2-requires
     vector3-requires
     (λ c κs. search needs)

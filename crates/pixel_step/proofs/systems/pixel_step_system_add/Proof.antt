@@ -1,0 +1,57 @@
+-- `pixel_step::systems::pixel_step_system_add` meets its contract. Assumes nothing.
+use mathlib.Core.Path.{_≡_, ap, _∙_}
+use lib.ListN.{length}
+use Rattle.schur.specs.System as System
+use Rattle.schur.specs.declared.linearize.LocalLinearization.{LocalLinearization}
+use Rattle.schur.specs.declared.system.Added.{Added}
+use Rattle.schur.specs.declared.system.ReducedSystem.{ReducedSystem}
+use Rattle.pixel_step.specs.Flat.{system}
+use Rattle.pixel_step.specs.Interface.{add}
+use Rattle.pixel_step.proofs.Laws.{too-short-system, changes, three-fit}
+use borrow.Author.Needs.{needs}
+use Rattle.pixel_step.proofs.systems.pixel_step_system_add.Statement.{statement}
+use Rattle.pixel_step.proofs.systems.pixel_step_system_add.Tie as tie
+
+fit : (c : tie.Else1) → (length (c .before .before .before .before .args .system .now) ≡ 45) × (length (c .before .before .before .before .args .counts .now) ≡ 3) × (length (c .before .before .before .before .args .block .now) ≡ 59)
+fit c = three-fit (length (c .before .before .before .before .args .system .now)) (length (c .before .before .before .before .args .counts .now)) (length (c .before .before .before .before .args .block .now)) 45 3 59 (c .if1 .left)
+
+returns : tie.Need-returns
+unfolding add
+returns c = too-short-system _ _ _ _ _ _ (c .before .if1 .taken) (c .lengths .ensures)
+
+system-requires : tie.Need-system-requires
+system-requires c κs =
+    let f = fit (c .before .before) in
+    (f .0, f .1)
+
+block-requires : tie.Need-block-requires
+block-requires c κs = fit (c .before .before .before) .2
+
+answer-requires : tie.Need-answer-requires
+answer-requires c κs =
+    let f = fit (c .before .before .before .before .before .before .before .before .before) in
+    (f .0, f .1)
+
+returns-2 : tie.Need-returns-2
+unfolding add
+returns-2 c =
+    let start = c .before .before .before .before .before .before .before .before .before .before .before .before .before .before .before .before .before .before in
+    let e =
+    c .before .before .before .before .before .before .before .before .before .add .ensures
+    ∙ ap (λ (s : ReducedSystem). System.add s (c .before .before .before .before .before .before .before .before .before .before .block .result) (start .args .damping)) (c .before .before .before .before .before .before .before .before .before .before .before .system .ensures)
+    ∙ ap (λ (b : LocalLinearization). System.add (system (start .args .system .now) (start .args .counts .now)) b (start .args .damping)) (c .before .before .before .before .before .before .before .before .before .before .block .ensures) in
+    changes _ _ _ _ _ _ _ _ _ _ (c .before .before .before .before .before .before .before .before .before .before .before .before .before .before .if1 .left) (ap (λ (a : Added). a .refusal) e) (ap (λ (a : Added). a .system) e) (c .before .before .before .before .answer .ensures)
+
+pub pixel-step-system-add-spec : {M : Type 1} → statement M
+pixel-step-system-add-spec =
+    tie.close
+    (tie.spec
+    (λ c κs. search needs)
+    returns
+    system-requires
+    block-requires
+    (λ c κs. search needs)
+    answer-requires
+    (λ c. search needs)
+    (λ c. search needs)
+    returns-2)

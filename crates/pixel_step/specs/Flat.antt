@@ -1,0 +1,75 @@
+-- The structs of the calls as flat lists of numbers, and back.
+use Prim.Native.Nat.{ℕ, _-_}
+use mathlib.Core.Bool.{Bool, not, cond}
+use mathlib.Core.List.{List, [], _∷_, _++_}
+use lib.Dec.{eqb}
+use lib.ListN.{length, getD, take, drop}
+use lib.Seq.{paste}
+use lib.Ieee.{Float}
+use Rattle.number.specs.Vectors.{_!_}
+use Rattle.refusal.specs.Refused.{none}
+use Rattle.projection.specs.declared.PinholeCamera.{PinholeCamera}
+use Rattle.schur.specs.declared.linearize.Dot.{Dot}
+use Rattle.schur.specs.declared.linearize.LocalLinearization.{LocalLinearization}
+use Rattle.schur.specs.declared.linearize.Pose.{Pose}
+use Rattle.schur.specs.declared.system.ReducedSystem.{ReducedSystem}
+
+-- the numbers from one place up to another
+abbrev pub part : ℕ → ℕ → List Float → List Float
+part start end x = take (end - start) (drop start x)
+
+-- `out` with the values in it, from `start` on
+unfoldable pub put : List Float → ℕ → List Float → List Float
+put values start out = paste out start values (length values)
+
+abbrev pub camera : List Float → PinholeCamera
+camera x = record { fx = x ! 0; fy = x ! 1; cx = x ! 2; cy = x ! 3; skew = x ! 4 }
+
+unfoldable pub pose : List Float → Pose
+pose x = record { rotation = part 0 9 x; translation = part 9 12 x; basis = part 12 18 x; baseline = x ! 18 }
+
+unfoldable pub dot : List Float → Dot
+dot x = record { point = part 0 3 x; view1 = part 3 5 x; view2 = part 5 7 x; «inverse_deviation» = x ! 7 }
+
+unfoldable pub block : List Float → LocalLinearization
+block x = record {
+  «pose_hessian» = part 0 25 x;
+  «cross_hessian» = part 25 40 x;
+  «point_hessian» = part 40 49 x;
+  «pose_gradient» = part 49 54 x;
+  «point_gradient» = part 54 57 x;
+  cost = x ! 57;
+  «squared_residual» = x ! 58;
+  refusal = none;
+}
+
+unfoldable pub blockNumbers : LocalLinearization → List Float
+blockNumbers b =
+    b .«pose_hessian» ++ b .«cross_hessian» ++ b .«point_hessian» ++ b .«pose_gradient» ++ b .«point_gradient» ++ (b .cost ∷ b .«squared_residual» ∷ [])
+
+-- from 45 numbers, and the weak count, the block count and the flag, which is false where it is 0
+unfoldable pub system : List Float → List ℕ → ReducedSystem
+system x counts = record {
+  hessian = part 0 25 x;
+  gradient = part 25 30 x;
+  cost = x ! 30;
+  «squared_residual» = x ! 31;
+  «full_pose_gradient» = part 32 37 x;
+  «pose_diagonal» = part 37 42 x;
+  «point_model_reduction» = x ! 42;
+  «scaled_point_gradient_inf_norm» = x ! 43;
+  «weak_point_count» = getD counts 0 0;
+  «minimum_point_rcond» = x ! 44;
+  valid = not (eqb (getD counts 2 0) 0);
+  «block_count» = getD counts 1 0;
+}
+
+unfoldable pub systemNumbers : ReducedSystem → List Float
+systemNumbers s =
+    s .hessian ++ s .gradient ++ (s .cost ∷ s .«squared_residual» ∷ []) ++ s .«full_pose_gradient» ++ s .«pose_diagonal» ++ (s .«point_model_reduction» ∷ s .«scaled_point_gradient_inf_norm» ∷ s .«minimum_point_rcond» ∷ [])
+
+abbrev pub flag : Bool → ℕ
+flag b = cond b 1 0
+
+unfoldable pub systemCounts : ReducedSystem → List ℕ
+systemCounts s = s .«weak_point_count» ∷ s .«block_count» ∷ flag (s .valid) ∷ []

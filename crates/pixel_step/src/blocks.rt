@@ -1,0 +1,44 @@
+// The block of one point, and how the point moves. A block is 59 numbers.
+ghost use Rattle.pixel_step.specs.Interface as Interface;
+use crate::flat;
+use crate::memory;
+
+// head: 29; dot: point, view 1, view 2, inverse deviation, 8; out: a block
+#[no_mangle]
+pub extern "C" fn pixel_step_linearize_point(head: &[f64], dot: &[f64], out: &mut [f64]) -> u64
+    ensures { λ r. ⌜ Interface.Answered r (now (out .exit))
+        (Interface.linearizePoint (now (head .entry)) (now (dot .entry)) (now (out .entry))) ⌝ }
+{
+    if !((head.len() == 29) & (dot.len() == 8) & (out.len() == 59)) {
+        return memory::lengths();
+    }
+    let camera1 = flat::camera(&head[0..5]);
+    let camera2 = flat::camera(&head[5..10]);
+    let pose = flat::pose(&head[10..29]);
+    let b = schur::linearize_point(camera1, camera2, pose, flat::dot(dot));
+    let refusal = b.refusal;
+    let values = flat::block_numbers(b);
+    memory::answer(refusal, &values, out)
+}
+
+// pose_step: 5; out: step 3, damping norm
+#[no_mangle]
+pub extern "C" fn pixel_step_point_step_with_damping_norm(
+    block: &[f64],
+    damping: f64,
+    pose_step: &[f64],
+    out: &mut [f64],
+) -> u64
+    ensures { λ r. ⌜ Interface.Answered r (now (out .exit))
+        (Interface.pointStep (now (block .entry)) damping (now («pose_step» .entry)) (now (out .entry))) ⌝ }
+{
+    if !((block.len() == 59) & (pose_step.len() == 5) & (out.len() == 4)) {
+        return memory::lengths();
+    }
+    let b = flat::block(block);
+    let p = schur::point_step_with_damping_norm(b, damping, memory::vector5(pose_step));
+    let refusal = p.refusal;
+    let s = p.step;
+    let values = [s[0], s[1], s[2], p.damping_norm];
+    memory::answer(refusal, &values, out)
+}
