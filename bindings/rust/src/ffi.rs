@@ -87,4 +87,79 @@ unsafe extern "C" {
         out: *mut f64,
         out_len: usize,
     ) -> u64;
+
+    pub fn pixel_step_linearize_point(
+        head: *const f64,
+        head_len: usize,
+        dot: *const f64,
+        dot_len: usize,
+        out: *mut f64,
+        out_len: usize,
+    ) -> u64;
+
+    pub fn pixel_step_point_step_with_damping_norm(
+        block: *const f64,
+        block_len: usize,
+        damping: f64,
+        pose_step: *const f64,
+        pose_step_len: usize,
+        out: *mut f64,
+        out_len: usize,
+    ) -> u64;
+
+    pub fn pixel_step_system_new(
+        system: *mut f64,
+        system_len: usize,
+        counts: *mut u16,
+        counts_len: usize,
+    ) -> u64;
+
+    pub fn pixel_step_system_add(
+        system: *mut f64,
+        system_len: usize,
+        counts: *mut u16,
+        counts_len: usize,
+        block: *const f64,
+        block_len: usize,
+        damping: f64,
+    ) -> u64;
+
+    pub fn pixel_step_system_finish_damping(
+        system: *mut f64,
+        system_len: usize,
+        counts: *mut u16,
+        counts_len: usize,
+        damping: f64,
+    ) -> u64;
+
+    pub fn pixel_step_system_is_valid(
+        system: *const f64,
+        system_len: usize,
+        counts: *const u16,
+        counts_len: usize,
+        out: *mut u16,
+        out_len: usize,
+    ) -> u64;
+
+    pub fn pixel_step_system_scaled_gradient_inf_norm(
+        system: *const f64,
+        system_len: usize,
+        counts: *const u16,
+        counts_len: usize,
+        out: *mut f64,
+        out_len: usize,
+    ) -> u64;
+
+    pub fn pixel_step_system_predicted_reduction(
+        system: *const f64,
+        system_len: usize,
+        counts: *const u16,
+        counts_len: usize,
+        step: *const f64,
+        step_len: usize,
+        damping: f64,
+        point_damping_norm: f64,
+        out: *mut f64,
+        out_len: usize,
+    ) -> u64;
 }

@@ -5,8 +5,12 @@
 mod ffi;
 mod refusal;
 pub mod slices;
+mod system;
 
 pub use refusal::Refusal;
+pub use system::{
+    Block, Dot, Head, PointStep, System, linearize_point, point_step_with_damping_norm,
+};
 
 /// A residual and its derivative by the point, row by row.
 #[derive(Clone, Copy, Debug, PartialEq)]

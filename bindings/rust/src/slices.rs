@@ -2,7 +2,8 @@
 //! 1; the answer is the code that `Refusal::from_code` reads.
 //!
 //! Why these are safe: a call reads no further than the lengths that it is
-//! given, and writes only `out`, and that only where it answers 0.
+//! given, and writes only `out`, or the system that it changes, and that only
+//! where it answers 0.
 
 use crate::ffi;
 
@@ -116,6 +117,133 @@ pub fn solve_positive_definite(a: &[f64], b: &[f64], out: &mut [f64]) -> u64 {
             a.len(),
             b.as_ptr(),
             b.len(),
+            out.as_mut_ptr(),
+            out.len(),
+        )
+    }
+}
+
+/// `head` 29, `dot` 8, `out` 59.
+pub fn linearize_point(head: &[f64], dot: &[f64], out: &mut [f64]) -> u64 {
+    unsafe {
+        ffi::pixel_step_linearize_point(
+            head.as_ptr(),
+            head.len(),
+            dot.as_ptr(),
+            dot.len(),
+            out.as_mut_ptr(),
+            out.len(),
+        )
+    }
+}
+
+/// `block` 59, `pose_step` 5, `out` 4.
+pub fn point_step_with_damping_norm(
+    block: &[f64],
+    damping: f64,
+    pose_step: &[f64],
+    out: &mut [f64],
+) -> u64 {
+    unsafe {
+        ffi::pixel_step_point_step_with_damping_norm(
+            block.as_ptr(),
+            block.len(),
+            damping,
+            pose_step.as_ptr(),
+            pose_step.len(),
+            out.as_mut_ptr(),
+            out.len(),
+        )
+    }
+}
+
+/// `system` 45, `counts` 3.
+pub fn system_new(system: &mut [f64], counts: &mut [u16]) -> u64 {
+    unsafe {
+        ffi::pixel_step_system_new(
+            system.as_mut_ptr(),
+            system.len(),
+            counts.as_mut_ptr(),
+            counts.len(),
+        )
+    }
+}
+
+/// `system` 45, `counts` 3, `block` 59.
+pub fn system_add(system: &mut [f64], counts: &mut [u16], block: &[f64], damping: f64) -> u64 {
+    unsafe {
+        ffi::pixel_step_system_add(
+            system.as_mut_ptr(),
+            system.len(),
+            counts.as_mut_ptr(),
+            counts.len(),
+            block.as_ptr(),
+            block.len(),
+            damping,
+        )
+    }
+}
+
+/// `system` 45, `counts` 3.
+pub fn system_finish_damping(system: &mut [f64], counts: &mut [u16], damping: f64) -> u64 {
+    unsafe {
+        ffi::pixel_step_system_finish_damping(
+            system.as_mut_ptr(),
+            system.len(),
+            counts.as_mut_ptr(),
+            counts.len(),
+            damping,
+        )
+    }
+}
+
+/// `system` 45, `counts` 3, `out` 1.
+pub fn system_is_valid(system: &[f64], counts: &[u16], out: &mut [u16]) -> u64 {
+    unsafe {
+        ffi::pixel_step_system_is_valid(
+            system.as_ptr(),
+            system.len(),
+            counts.as_ptr(),
+            counts.len(),
+            out.as_mut_ptr(),
+            out.len(),
+        )
+    }
+}
+
+/// `system` 45, `counts` 3, `out` 1.
+pub fn system_scaled_gradient_inf_norm(system: &[f64], counts: &[u16], out: &mut [f64]) -> u64 {
+    unsafe {
+        ffi::pixel_step_system_scaled_gradient_inf_norm(
+            system.as_ptr(),
+            system.len(),
+            counts.as_ptr(),
+            counts.len(),
+            out.as_mut_ptr(),
+            out.len(),
+        )
+    }
+}
+
+/// `system` 45, `counts` 3, `step` 5, `out` 1.
+pub fn system_predicted_reduction(
+    system: &[f64],
+    counts: &[u16],
+    step: &[f64],
+    damping: f64,
+    point_damping_norm: f64,
+    out: &mut [f64],
+) -> u64 {
+    unsafe {
+        ffi::pixel_step_system_predicted_reduction(
+            system.as_ptr(),
+            system.len(),
+            counts.as_ptr(),
+            counts.len(),
+            step.as_ptr(),
+            step.len(),
+            damping,
+            point_damping_norm,
             out.as_mut_ptr(),
             out.len(),
         )
