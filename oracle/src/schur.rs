@@ -17,6 +17,35 @@ pub struct Head {
     pub baseline: f64,
 }
 
+impl Head {
+    /// How many numbers a head has.
+    pub const NUMBERS: usize = 29;
+
+    /// All numbers in the order of the fields.
+    pub fn numbers(&self) -> [f64; Self::NUMBERS] {
+        let mut numbers = self
+            .cameras
+            .as_flattened()
+            .iter()
+            .chain(&self.rotation)
+            .chain(&self.translation)
+            .chain(&self.basis)
+            .chain([&self.baseline]);
+        std::array::from_fn(|_| *numbers.next().expect("29 numbers"))
+    }
+
+    /// A head of any numbers, in the order of the fields.
+    pub fn from_numbers(numbers: &[f64; Self::NUMBERS]) -> Self {
+        Self {
+            cameras: [part(numbers, 0), part(numbers, 5)],
+            rotation: part(numbers, 10),
+            translation: part(numbers, 19),
+            basis: part(numbers, 22),
+            baseline: numbers[28],
+        }
+    }
+}
+
 /// One point, where each view saw it, and its inverse deviation.
 #[derive(Clone, Copy, Debug)]
 pub struct Dot {
@@ -24,6 +53,27 @@ pub struct Dot {
     pub view1: [f64; 2],
     pub view2: [f64; 2],
     pub inverse_deviation: f64,
+}
+
+impl Dot {
+    /// How many numbers a dot has.
+    pub const NUMBERS: usize = 8;
+
+    /// All numbers in the order of the fields.
+    pub fn numbers(&self) -> [f64; Self::NUMBERS] {
+        let ([x, y, z], [a, b], [c, d]) = (self.point, self.view1, self.view2);
+        [x, y, z, a, b, c, d, self.inverse_deviation]
+    }
+
+    /// A dot of any numbers, in the order of the fields.
+    pub fn from_numbers(numbers: &[f64; Self::NUMBERS]) -> Self {
+        Self {
+            point: part(numbers, 0),
+            view1: part(numbers, 3),
+            view2: part(numbers, 5),
+            inverse_deviation: numbers[7],
+        }
+    }
 }
 
 /// `LocalLinearization`, matrices by rows (the cross Hessian is 5 by 3).

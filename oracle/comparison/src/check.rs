@@ -47,14 +47,20 @@ impl Difference {
     }
 }
 
-/// Runs the port and holds its answer and the memory against what is expected.
-pub fn check(function: &Function, input: &Input, expected: &Answer) -> Option<Difference> {
+/// The port's answer, and memory that the call should have left alone.
+pub fn call(function: &Function, input: &Input) -> (Answer, Option<String>) {
     let mut memory = Memory::new(function.arguments, input);
     let port = match Refusal::from_code(memory.call(function.port)) {
         None => Answer::Result(memory.results()),
         Some(refusal) => Answer::Refused(refusal),
     };
     let change = memory.change(input, matches!(port, Answer::Result(_)));
+    (port, change)
+}
+
+/// Runs the port and holds its answer and the memory against what is expected.
+pub fn check(function: &Function, input: &Input, expected: &Answer) -> Option<Difference> {
+    let (port, change) = call(function, input);
     if change.is_none() && port.same(expected, function.arguments) {
         return None;
     }

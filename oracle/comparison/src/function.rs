@@ -20,11 +20,19 @@ pub enum Kind {
     /// Lent bytes, one an entry of the input.
     #[allow(dead_code, reason = "for the run record")]
     Bytes,
+    /// Lent whole numbers of sixteen bits, one an entry of the input.
+    Counts,
     /// Lent numbers that the call writes.
     Room,
     /// Lent bytes that the call writes, one an entry of the input.
     #[allow(dead_code, reason = "for the run record")]
     ByteRoom,
+    /// Lent whole numbers of sixteen bits that the call writes.
+    CountRoom,
+    /// Lent numbers that the call reads and writes.
+    State,
+    /// Lent whole numbers of sixteen bits that the call reads and writes.
+    CountState,
     /// A number that the call returns.
     Returned,
     /// A whole number that the call returns; compared with all its bits.
@@ -32,14 +40,18 @@ pub enum Kind {
 }
 
 impl Kind {
-    /// An entry is a byte.
-    pub fn is_bytes(self) -> bool {
-        matches!(self, Self::Bytes | Self::ByteRoom)
+    /// How many bytes an entry has in memory.
+    pub const fn width(self) -> usize {
+        match self {
+            Self::Bytes | Self::ByteRoom => 1,
+            Self::Counts | Self::CountRoom | Self::CountState => 2,
+            _ => 8,
+        }
     }
 
-    /// An entry that is written is a number: two NaN are then the same.
-    pub fn gives_numbers(self) -> bool {
-        matches!(self, Self::Room | Self::Returned)
+    /// Entries are numbers, so that any NaN stands for any other.
+    pub fn is_numeric(self) -> bool {
+        self.width() == 8 && !matches!(self, Self::Word | Self::ReturnedWord)
     }
 }
 
@@ -59,19 +71,21 @@ impl Argument {
 
     /// The call puts its result there.
     pub fn is_written(&self) -> bool {
-        matches!(
-            self.kind,
-            Kind::Room | Kind::ByteRoom | Kind::Returned | Kind::ReturnedWord
-        )
+        let room = matches!(self.kind, Kind::Room | Kind::CountRoom | Kind::ByteRoom);
+        let state = matches!(self.kind, Kind::State | Kind::CountState);
+        room || state || matches!(self.kind, Kind::Returned | Kind::ReturnedWord)
+    }
+
+    /// The call reads it.
+    pub fn is_given(&self) -> bool {
+        !self.is_written() || matches!(self.kind, Kind::State | Kind::CountState)
     }
 
     /// It is lent with a length that can be wrong.
     pub fn has_one_length(&self) -> bool {
-        let lent = matches!(
-            self.kind,
-            Kind::Numbers | Kind::Bytes | Kind::Room | Kind::ByteRoom
-        );
-        lent && self.length.is_some()
+        let by_value = matches!(self.kind, Kind::Number | Kind::Word);
+        let returned = matches!(self.kind, Kind::Returned | Kind::ReturnedWord);
+        !by_value && !returned && self.length.is_some()
     }
 }
 
@@ -88,6 +102,26 @@ pub const fn word(name: &'static str) -> Argument {
 /// So many lent numbers.
 pub const fn lent(name: &'static str, length: usize) -> Argument {
     Argument::new(name, Kind::Numbers, Some(length))
+}
+
+/// So many lent whole numbers of sixteen bits.
+pub const fn counts(name: &'static str, length: usize) -> Argument {
+    Argument::new(name, Kind::Counts, Some(length))
+}
+
+/// So many numbers that the call changes in place.
+pub const fn state(name: &'static str, length: usize) -> Argument {
+    Argument::new(name, Kind::State, Some(length))
+}
+
+/// So many whole numbers of sixteen bits that the call changes in place.
+pub const fn count_state(name: &'static str, length: usize) -> Argument {
+    Argument::new(name, Kind::CountState, Some(length))
+}
+
+/// Room for so many whole numbers of sixteen bits.
+pub const fn count_room(length: usize) -> Argument {
+    Argument::new("out", Kind::CountRoom, Some(length))
 }
 
 /// Room for so many numbers.
@@ -130,6 +164,12 @@ impl Answer {
         Self::Result(vec![vec![word]])
     }
 
+    /// A result of these numbers and these whole numbers, each in its place.
+    pub fn numbers_and_counts(numbers: &[f64], counts: &[u16]) -> Self {
+        let counts = counts.iter().map(|&count| u64::from(count)).collect();
+        Self::Result(vec![numbers.iter().map(|x| x.to_bits()).collect(), counts])
+    }
+
     /// A refusal by a row alone.
     pub const fn row(number: u8) -> Self {
         Self::Refused(Refusal {
@@ -163,7 +203,7 @@ impl Answer {
 
 /// Equal bits, or two NaN where the figures are numbers.
 fn same_figure(kind: Kind, left: u64, right: u64) -> bool {
-    left == right || kind.gives_numbers() && flat::same(f64::from_bits(left), f64::from_bits(right))
+    left == right || kind.is_numeric() && flat::same(f64::from_bits(left), f64::from_bits(right))
 }
 
 /// Inputs that each run takes before the seeded ones.
@@ -234,6 +274,6 @@ impl Function {
 
 /// Puts a returned value where the driver reads it; the answer is 0.
 pub fn give(rooms: &mut Rooms<'_>, value: f64) -> u64 {
-    rooms[0][0] = value;
+    rooms.numbers[0][0] = value;
     0
 }

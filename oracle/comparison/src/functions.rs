@@ -4,7 +4,7 @@ use crate::function::Function;
 
 macro_rules! functions {
     ($($name:ident)*) => {
-        $(mod $name;)*
+        $(pub mod $name;)*
         pub const ALL: &[&Function] = &[$(&$name::FUNCTION),*];
     };
 }
@@ -27,6 +27,14 @@ functions! {
     factor_solve
     reciprocal_condition_number
     solve_positive_definite
+    linearize_point
+    system_new
+    system_add
+    system_finish_damping
+    system_is_valid
+    system_scaled_gradient_inf_norm
+    system_predicted_reduction
+    point_step_with_damping_norm
 }
 
 // Until the port has the call.

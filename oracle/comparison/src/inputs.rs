@@ -4,6 +4,7 @@
 mod equations;
 mod matrices;
 mod sights;
+mod systems;
 
 use oracle::generate::{self, Source};
 
@@ -13,6 +14,7 @@ use crate::input::Input;
 pub use equations::equations;
 pub use matrices::{inverse, matrix};
 pub use sights::sight;
+pub use systems::{MOST_BLOCKS, block, dot, system};
 
 /// 64ε: depths and pivots at or below it are refused.
 const LIMIT: f64 = 64.0 * f64::EPSILON;
@@ -94,6 +96,15 @@ pub fn pair(source: &mut Source) -> [f64; 2] {
         4 => [f64::NAN, x],
         5 => [zero(source), x],
         _ => [x, number(source)],
+    }
+}
+
+/// A damping that row 3 refuses.
+pub fn bad_damping(source: &mut Source) -> f64 {
+    match source.below(4) {
+        0 => -source.moderate().abs(),
+        1 => -source.power(),
+        _ => [f64::NAN, f64::INFINITY, f64::NEG_INFINITY][source.below(3)],
     }
 }
 

@@ -41,10 +41,10 @@ pub fn wrong(function: &Function, input: &Input) -> Vec<Input> {
 
 /// What a longer argument ends in.
 fn filler(function: &Function, place: usize) -> u64 {
-    let argument = function.arguments[place];
-    if argument.is_written() {
-        fill(argument.kind)
-    } else {
-        1.0_f64.to_bits()
+    let argument = &function.arguments[place];
+    match argument.kind.width() {
+        _ if argument.is_written() => fill(argument.kind),
+        8 => 1.0_f64.to_bits(),
+        _ => 1,
     }
 }

@@ -8,11 +8,13 @@ mod functions;
 mod input;
 mod inputs;
 mod lengths;
+mod lists;
 mod memory;
 mod options;
 mod run;
 mod sample;
 mod shrink;
+mod systems;
 mod tally;
 
 use std::env;
@@ -40,6 +42,9 @@ fn work(options: &Options) -> Result<bool, String> {
             Some(folder) => sample::write(function, options.seed, options.lines, folder)?,
             None => same &= run::run(function, options),
         }
+    }
+    if options.lists && options.sample.is_none() {
+        same &= lists::run(options);
     }
     Ok(same)
 }

@@ -1,7 +1,7 @@
 //! The memory that a call is lent, with guards on both sides of each argument.
 
 use std::hint::black_box;
-use std::ops::{Index, IndexMut};
+use std::ops::Range;
 use std::slice::{from_raw_parts, from_raw_parts_mut};
 
 use crate::function::Argument;
@@ -22,18 +22,12 @@ struct Block {
 
 impl Block {
     fn new(argument: Argument, entries: &[u64]) -> Self {
-        let bytes = argument.kind.is_bytes();
-        let room = if bytes {
-            entries.len().div_ceil(8)
-        } else {
-            entries.len()
-        };
+        let room = (entries.len() * argument.kind.width()).div_ceil(8);
         let mut words = vec![GUARD; GUARDS + room + GUARDS];
         let inner = &mut words[GUARDS..GUARDS + room];
-        if bytes {
-            pack(inner, entries);
-        } else {
-            inner.copy_from_slice(entries);
+        match argument.kind.width() {
+            8 => inner.copy_from_slice(entries),
+            width => pack(inner, entries, width),
         }
         Self {
             argument,
@@ -42,86 +36,78 @@ impl Block {
         }
     }
 
-    /// The entries, which are not bytes.
-    fn entries(&self) -> &[u64] {
-        &self.words[GUARDS..self.words.len() - GUARDS]
+    /// Where the entries are, among all bytes.
+    fn inside(&self) -> Range<usize> {
+        let start = 8 * GUARDS;
+        start..start + self.length * self.argument.kind.width()
     }
 
-    fn numbers(&self) -> &[f64] {
-        let entries = self.entries();
-        // u64 and f64 have the same size and alignment, and no bad patterns.
-        unsafe { from_raw_parts(entries.as_ptr().cast(), entries.len()) }
+    /// Guards and entries.
+    fn all_bytes(&self) -> &[u8] {
+        // The words hold eight bytes each.
+        unsafe { from_raw_parts(self.words.as_ptr().cast(), 8 * self.words.len()) }
     }
 
-    fn numbers_mut(&mut self) -> &mut [f64] {
-        let end = self.words.len() - GUARDS;
-        let entries = &mut self.words[GUARDS..end];
-        // As above.
-        unsafe { from_raw_parts_mut(entries.as_mut_ptr().cast(), entries.len()) }
+    /// So many entries of a type that fills the kind's width and has no bad
+    /// patterns; a word is aligned for each.
+    fn slice<T>(&self) -> &[T] {
+        assert_eq!(size_of::<T>(), self.argument.kind.width());
+        unsafe { from_raw_parts(self.words[GUARDS..].as_ptr().cast(), self.length) }
     }
 
-    /// How many bytes are lent.
-    fn size(&self) -> usize {
-        if self.argument.kind.is_bytes() {
-            self.length
-        } else {
-            8 * self.length
-        }
+    /// The same, to be written.
+    fn slice_mut<T>(&mut self) -> &mut [T] {
+        assert_eq!(size_of::<T>(), self.argument.kind.width());
+        unsafe { from_raw_parts_mut(self.words[GUARDS..].as_mut_ptr().cast(), self.length) }
     }
 
-    /// All that is lent, as bytes.
-    fn bytes(&self) -> &[u8] {
-        // The words hold at least as many bytes.
-        unsafe { from_raw_parts(self.entries().as_ptr().cast(), self.size()) }
-    }
-
-    fn bytes_mut(&mut self) -> &mut [u8] {
-        let (end, size) = (self.words.len() - GUARDS, self.size());
-        let entries = &mut self.words[GUARDS..end];
-        // As above.
-        unsafe { from_raw_parts_mut(entries.as_mut_ptr().cast(), size) }
-    }
-
-    /// What the call has left in it, one entry a number or byte.
-    fn result(&self) -> Vec<u64> {
-        if self.argument.kind.is_bytes() {
-            self.bytes().iter().map(|&byte| u64::from(byte)).collect()
-        } else {
-            self.entries().to_vec()
+    /// One entry a number, count or byte.
+    fn entries(&self) -> Vec<u64> {
+        match self.argument.kind.width() {
+            8 => self.slice::<u64>().to_vec(),
+            2 => self.slice::<u16>().iter().map(|&x| u64::from(x)).collect(),
+            _ => self.slice::<u8>().iter().map(|&x| u64::from(x)).collect(),
         }
     }
 
     /// What has changed since the block was `before`, if anything. What is
-    /// written may differ inside where the call gave a result; the rest of a
-    /// last word, behind the last byte, may not.
-    fn change(&self, mut before: Self, gave_result: bool) -> Option<String> {
-        let name = self.argument.name;
-        let inside = GUARDS..self.words.len() - GUARDS;
+    /// written may differ inside where the call gave a result.
+    fn change(&self, before: &Self, gave_result: bool) -> Option<String> {
+        let (now, was) = (self.all_bytes(), before.all_bytes());
+        let inside = self.inside();
         let free = self.argument.is_written() && gave_result;
-        if free {
-            before.bytes_mut().copy_from_slice(self.bytes());
-        }
-        let place =
-            (0..self.words.len()).find(|&place| self.words[place] != before.words[place])?;
-        let now = self.words[place];
+        let place = (0..now.len())
+            .filter(|place| !(free && inside.contains(place)))
+            .find(|&place| now[place] != was[place])?;
+        let (name, word) = (self.argument.name, self.words[place / 8]);
         Some(match place {
-            place if place < inside.start => format!("{name}: before it stands {now:016X}"),
-            place if place >= inside.end => format!("{name}: behind it stands {now:016X}"),
-            place if self.argument.is_written() && !free => {
-                let index = place - GUARDS;
-                format!("{name}: word {index} is {now:016X} beside a refusal")
+            place if place < inside.start => format!("{name}: before it stands {word:016X}"),
+            place if place >= inside.end => format!("{name}: behind it stands {word:016X}"),
+            place => {
+                let index = (place - inside.start) / self.argument.kind.width();
+                let beside = if self.argument.is_written() {
+                    " beside a refusal"
+                } else {
+                    ""
+                };
+                format!("{name}: entry {index} has changed to {word:016X}{beside}")
             }
-            place => format!("{name}: word {} has become {now:016X}", place - GUARDS),
         })
     }
 }
 
-/// Bytes, one an entry, into words; what is left of the last is guard.
-fn pack(words: &mut [u64], entries: &[u64]) {
-    let guard = GUARD.to_ne_bytes();
-    for (word, entries) in words.iter_mut().zip(entries.chunks(8)) {
-        let byte = |i: usize| entries.get(i).map_or(guard[i], |&entry| entry as u8);
-        *word = u64::from_ne_bytes(std::array::from_fn(byte));
+/// Entries of so many bytes into words; what is left of the last is guard.
+fn pack(words: &mut [u64], entries: &[u64], width: usize) {
+    let bytes = entries
+        .iter()
+        .flat_map(|entry| entry.to_le_bytes().into_iter().take(width));
+    let mut bytes = bytes.collect::<Vec<_>>();
+    let guard = GUARD.to_le_bytes();
+    while !bytes.len().is_multiple_of(8) {
+        bytes.push(guard[bytes.len() % 8]);
+    }
+    for (word, bytes) in words.iter_mut().zip(bytes.as_chunks().0) {
+        *word = u64::from_le_bytes(*bytes);
     }
 }
 
@@ -138,40 +124,30 @@ impl Lent<'_> {
     }
 
     pub fn word(&self, argument: usize) -> u64 {
-        self.block(argument).entries()[0]
+        self.block(argument).slice()[0]
     }
 
     pub fn numbers(&self, argument: usize) -> &[f64] {
-        self.block(argument).numbers()
+        self.block(argument).slice()
+    }
+
+    pub fn counts(&self, argument: usize) -> &[u16] {
+        self.block(argument).slice()
     }
 
     #[allow(dead_code, reason = "for the run record")]
     pub fn bytes(&self, argument: usize) -> &[u8] {
-        self.block(argument).bytes()
+        self.block(argument).slice()
     }
 }
 
-/// The arguments that a call writes: `rooms[0]` is the first of numbers,
-/// `rooms.bytes[0]` the first of bytes.
+/// What a call writes, in the order of the arguments.
 #[derive(Default)]
 pub struct Rooms<'a> {
-    numbers: Vec<&'a mut [f64]>,
+    pub numbers: Vec<&'a mut [f64]>,
+    pub counts: Vec<&'a mut [u16]>,
     #[allow(dead_code, reason = "for the run record")]
     pub bytes: Vec<&'a mut [u8]>,
-}
-
-impl<'a> Index<usize> for Rooms<'a> {
-    type Output = &'a mut [f64];
-
-    fn index(&self, room: usize) -> &Self::Output {
-        &self.numbers[room]
-    }
-}
-
-impl IndexMut<usize> for Rooms<'_> {
-    fn index_mut(&mut self, room: usize) -> &mut Self::Output {
-        &mut self.numbers[room]
-    }
 }
 
 /// The memory of all arguments.
@@ -196,10 +172,10 @@ impl Memory {
                 continue;
             }
             lent.push(None);
-            if block.argument.kind.is_bytes() {
-                rooms.bytes.push(block.bytes_mut());
-            } else {
-                rooms.numbers.push(block.numbers_mut());
+            match block.argument.kind.width() {
+                8 => rooms.numbers.push(block.slice_mut()),
+                2 => rooms.counts.push(block.slice_mut()),
+                _ => rooms.bytes.push(block.slice_mut()),
             }
         }
         let code = port(&Lent(lent), &mut rooms);
@@ -211,13 +187,13 @@ impl Memory {
     /// The patterns of all that is written.
     pub fn results(&self) -> Vec<Vec<u64>> {
         let written = self.0.iter().filter(|block| block.argument.is_written());
-        written.map(Block::result).collect()
+        written.map(Block::entries).collect()
     }
 
     /// What the call changed and should not have.
     pub fn change(&self, input: &Input, gave_result: bool) -> Option<String> {
         self.0.iter().zip(&input.0).find_map(|(block, entries)| {
-            block.change(Block::new(block.argument, entries), gave_result)
+            block.change(&Block::new(block.argument, entries), gave_result)
         })
     }
 }
@@ -225,22 +201,33 @@ impl Memory {
 #[cfg(test)]
 mod tests {
     use super::*;
-    use crate::function::{Kind, lent, number, open, room};
-    use crate::input::{FILL, fill};
+    use crate::function::{Kind, count_state, counts, lent, number, open, room};
+    use crate::input::fill;
 
-    const ARGUMENTS: [Argument; 5] = [
+    const ARGUMENTS: [Argument; 7] = [
         lent("list", 3),
         number("value"),
         open("record", Kind::Bytes),
         room(2),
+        counts("counts", 5),
+        count_state("state", 3),
         open("text", Kind::ByteRoom),
     ];
 
     fn input() -> Input {
         let record = (0..11).collect();
         let list = [1.0_f64, -0.0, f64::NAN].map(f64::to_bits);
-        let text = vec![fill(Kind::ByteRoom); 11];
-        Input(vec![list.to_vec(), vec![5], record, vec![FILL; 2], text])
+        let room = vec![fill(Kind::Room); 2];
+        let counts = vec![1, 2, 3, 4, 65_535];
+        Input(vec![
+            list.to_vec(),
+            vec![5],
+            record,
+            room,
+            counts,
+            vec![7, 8, 9],
+            vec![fill(Kind::ByteRoom); 11],
+        ])
     }
 
     #[test]
@@ -251,32 +238,37 @@ mod tests {
             assert_eq!(lent.numbers(0).len(), 3);
             assert_eq!((lent.number(1).to_bits(), lent.word(1)), (5, 5));
             assert_eq!(lent.bytes(2), [0, 1, 2, 3, 4, 5, 6, 7, 8, 9, 10]);
-            rooms[0].copy_from_slice(&[2.0, 3.0]);
+            assert_eq!(lent.counts(4), [1, 2, 3, 4, 65_535]);
+            assert_eq!(*rooms.counts[0], [7, 8, 9]);
+            rooms.numbers[0].copy_from_slice(&[2.0, 3.0]);
+            rooms.counts[0][1] = 0x1234;
             rooms.bytes[0].copy_from_slice(b"eleven left");
             0
         });
         assert_eq!(code, 0);
+        let room = [2.0, 3.0].map(f64::to_bits).to_vec();
         let text = b"eleven left".map(u64::from).to_vec();
-        let numbers = [2.0, 3.0].map(f64::to_bits).to_vec();
-        assert_eq!(memory.results(), [numbers, text]);
+        assert_eq!(memory.results(), [room, vec![7, 0x1234, 9], text]);
         assert_eq!(memory.change(&input(), true), None);
         let change = memory.change(&input(), false).expect("written");
-        assert!(change.contains("word 0 is 4000000000000000"), "{change}");
+        assert!(
+            change.contains("entry 0 has changed to 4000000000000000"),
+            "{change}"
+        );
     }
 
-    /// Every word of the memory counts, guards and what follows a last byte.
+    /// Every byte of the memory counts, guards and what follows a last entry.
     #[test]
-    fn each_changed_word_is_found() {
+    fn each_changed_byte_is_found() {
         let sizes = Memory::new(&ARGUMENTS, &input()).0;
-        for (block, size) in sizes.iter().map(|block| block.words.len()).enumerate() {
+        for (block, size) in sizes.iter().map(|block| 8 * block.words.len()).enumerate() {
             for place in 0..size {
                 let mut memory = Memory::new(&ARGUMENTS, &input());
-                memory.0[block].words[place] ^= 1 << 63;
+                let inside = memory.0[block].inside().contains(&place);
+                memory.0[block].words[place / 8] ^= 1 << (8 * (place % 8));
                 assert!(memory.change(&input(), false).is_some());
-                let room = block >= 3 && (GUARDS..size - GUARDS).contains(&place);
-                // The sign's byte of the last word is behind the eleventh.
-                let behind = block == 4 && place == GUARDS + 1;
-                assert_eq!(memory.change(&input(), true).is_none(), room && !behind);
+                let free = inside && [3, 5, 6].contains(&block);
+                assert_eq!(memory.change(&input(), true).is_none(), free);
             }
         }
     }

@@ -15,7 +15,7 @@ use crate::tally::{First, Tally};
 const LENGTHS_ONCE_IN: u64 = 100;
 
 /// From so many cases on, each answer that a function has must come up.
-const ENOUGH: u64 = 1000;
+pub const ENOUGH: u64 = 1000;
 
 /// Compares one function, prints its line, and says whether all was the same.
 pub fn run(function: &Function, options: &Options) -> bool {
@@ -94,7 +94,7 @@ fn wrong_lengths(function: &Function, input: &Input, case: u64, tally: &mut Tall
 }
 
 /// Prints the first difference on the smallest input that was found.
-fn report(function: &Function, options: &Options, first: &First) {
+pub fn report(function: &Function, options: &Options, first: &First) {
     let First {
         case,
         input,

@@ -7,7 +7,7 @@ use std::path::Path;
 
 use oracle::flat;
 
-use crate::function::{Answer, Function};
+use crate::function::{Answer, Argument, Function};
 use crate::input::{Input, digits};
 use crate::run::text;
 use crate::tally::Tally;
@@ -18,6 +18,9 @@ const MOST: u64 = 1_000_000;
 /// From this case on, other results may stand for those that the rule decides,
 /// since some functions have only one such input.
 const PATIENCE: u64 = 20_000;
+
+/// A file is shorter than this, so that a reader's room can be.
+const BYTES: u64 = 300_000;
 
 /// What a line shows.
 #[derive(Clone, Copy, PartialEq, Eq)]
@@ -33,8 +36,9 @@ struct Wanted(Vec<(Class, u64)>);
 
 impl Wanted {
     /// So many lines show results, and as many each row; of the results a sixth
-    /// shows the rule for zeros, if it can be seen.
+    /// shows the rule for zeros, if it can be seen. Fewer where lines are long.
     fn new(function: &Function, lines: u64) -> Self {
+        let lines = lines.min(most(function));
         let rows = function.rows.iter();
         let mut classes: Vec<_> = rows.map(|&row| (Class::Row(row), lines)).collect();
         let ruled = function.plain.map_or(0, |_| lines / 6);
@@ -69,6 +73,17 @@ impl Wanted {
     fn left(&self) -> u64 {
         self.0.iter().map(|wanted| wanted.1).sum()
     }
+}
+
+/// How many lines of each class a file has room for.
+fn most(function: &Function) -> u64 {
+    let entries = |argument: &Argument| argument.length.unwrap_or(0) as u64;
+    let bytes = |argument: &Argument| {
+        let times = u64::from(argument.is_given()) + u64::from(argument.is_written());
+        times * entries(argument) * (2 * argument.kind.width() as u64 + 1)
+    };
+    let line = 2 + function.arguments.iter().map(bytes).sum::<u64>();
+    BYTES / line / (1 + function.rows.len() as u64)
 }
 
 /// Writes NAME.txt and prints what it holds.
@@ -122,7 +137,7 @@ fn class(answer: &Answer, ruled: bool) -> Class {
 fn line(function: &Function, input: &Input, answer: &Answer) -> String {
     let given = function.arguments.iter().zip(&input.0);
     let mut words: Vec<_> = given
-        .filter(|(argument, _)| !argument.is_written())
+        .filter(|(argument, _)| argument.is_given())
         .map(|(argument, entries)| digits(argument.kind, entries))
         .collect();
     words.push(String::from("="));
@@ -138,7 +153,7 @@ fn one_nan(function: &Function, answer: &Answer) -> Answer {
     let mut lists = lists.clone();
     let written = function.arguments.iter().filter(|a| a.is_written());
     for (argument, entries) in written.zip(&mut lists) {
-        if argument.kind.gives_numbers() {
+        if argument.kind.is_numeric() {
             entries
                 .iter_mut()
                 .for_each(|e| *e = flat::bits(f64::from_bits(*e)));
@@ -156,7 +171,8 @@ mod tests {
     fn a_sample_has_each_answer_and_no_line_twice() {
         for function in ALL {
             let (lines, tally) = collect(function, 1, 40).expect("a full sample");
-            let all = 40 * (1 + function.rows.len());
+            let all = 40.min(most(function)) as usize * (1 + function.rows.len());
+            assert!((lines.concat().len() as u64) < BYTES);
             assert_eq!((lines.len(), tally.cases()), (all, all as u64));
             assert!(tally.never_seen(function).is_empty(), "{}", function.name);
             let different: HashSet<_> = lines.iter().collect();
@@ -164,9 +180,8 @@ mod tests {
         }
     }
 
-    /// Capital patterns of sixteen digits and single spaces; as many as the
-    /// arguments have, if their lengths are not open; every NaN of an answer in
-    /// one pattern.
+    /// Capital patterns and single spaces; as many, and as wide, as the arguments
+    /// have, if their lengths are not open; every NaN of an answer in one pattern.
     #[test]
     fn a_line_has_the_form() {
         let of_numbers = |function: &&&Function| {
@@ -177,18 +192,19 @@ mod tests {
             let (lines, _) = collect(function, 2, 40).expect("a full sample");
             for line in &lines {
                 let (given, answer) = line.trim_end().split_once(" = ").expect("one sign");
-                let total = |written| {
-                    let arguments = function.arguments.iter();
-                    let counted = arguments.filter(|a| a.is_written() == written);
-                    counted.filter_map(|a| a.length).sum::<usize>()
+                let widths = |chosen: fn(&Argument) -> bool| {
+                    let arguments = function.arguments.iter().filter(|a| chosen(a));
+                    let widths = arguments.flat_map(|a| {
+                        std::iter::repeat_n(2 * a.kind.width(), a.length.unwrap_or(0))
+                    });
+                    widths.collect::<Vec<_>>()
                 };
-                assert_eq!(patterns(given).len(), total(false));
+                patterns(given, &widths(Argument::is_given));
                 if let Some(refusal) = answer.strip_prefix("refused ") {
                     assert_eq!(refusal.split(' ').count(), 3);
                     continue;
                 }
-                let results = patterns(answer);
-                assert_eq!(results.len(), total(true));
+                let results = patterns(answer, &widths(Argument::is_written));
                 let nan = |bits: &u64| f64::from_bits(*bits).is_nan();
                 assert!(
                     results
@@ -200,11 +216,15 @@ mod tests {
         }
     }
 
-    fn patterns(text: &str) -> Vec<u64> {
-        let read = |word: &str| {
-            assert_eq!((word.len(), word.to_uppercase()), (16, word.to_string()));
-            u64::from_str_radix(word, 16).expect("digits")
-        };
-        text.split(' ').map(read).collect()
+    /// The words of a text, which have these widths.
+    fn patterns(text: &str, widths: &[usize]) -> Vec<u64> {
+        let words: Vec<_> = text.split(' ').collect();
+        let found: Vec<_> = words.iter().map(|word| word.len()).collect();
+        assert_eq!(
+            (found.as_slice(), text),
+            (widths, text.to_uppercase().as_str())
+        );
+        let read = |word: &&str| u64::from_str_radix(word, 16).expect("digits");
+        words.iter().map(read).collect()
     }
 }

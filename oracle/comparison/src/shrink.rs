@@ -44,7 +44,7 @@ fn step(
     work: &mut usize,
 ) -> Option<(Input, Difference)> {
     for (place, argument) in function.arguments.iter().enumerate() {
-        if argument.is_written() {
+        if !argument.is_given() {
             continue;
         }
         for entries in simpler_lists(argument.kind, &input.0[place]) {
@@ -96,7 +96,7 @@ fn spans(kind: Kind, length: usize) -> Vec<Range<usize>> {
 /// A whole argument made simpler, where its entries only count together: all
 /// zero, all without mantissa, or all scaled so that the largest is near one.
 fn simpler_together(kind: Kind, entries: &[u64]) -> Vec<Vec<u64>> {
-    if kind == Kind::Bytes {
+    if kind.width() < 8 {
         return Vec::new();
     }
     let total = |entries: &[u64]| -> u64 { entries.iter().map(|&e| cost(kind, e)).sum() };
@@ -125,7 +125,7 @@ fn simpler_together(kind: Kind, entries: &[u64]) -> Vec<Vec<u64>> {
 fn simpler(kind: Kind, entry: u64) -> Vec<u64> {
     let limit = cost(kind, entry);
     let mut entries = match kind {
-        Kind::Bytes => vec![0, 1, entry / 2, entry.saturating_sub(1)],
+        kind if kind.width() < 8 => vec![0, 1, entry / 2, entry.saturating_sub(1)],
         _ => simpler_numbers(entry),
     };
     entries.retain(|&entry| cost(kind, entry) < limit);
@@ -160,7 +160,7 @@ fn simpler_numbers(entry: u64) -> Vec<u64> {
 
 /// How far a pattern is from being easy to read; what is not finite, farthest.
 fn cost(kind: Kind, entry: u64) -> u64 {
-    if kind == Kind::Bytes {
+    if kind.width() < 8 {
         return entry;
     }
     let size = entry & !SIGN;
@@ -190,7 +190,7 @@ mod tests {
         generate: |source| Input::of(&[&source.numbers::<4>()]),
         port: |lent, rooms| {
             let list = lent.numbers(0);
-            rooms[0][0] = f64::from(u8::from(list[1] > 3.0 && list[2].is_nan()));
+            rooms.numbers[0][0] = f64::from(u8::from(list[1] > 3.0 && list[2].is_nan()));
             0
         },
         oracle: |_| Answer::numbers(&[0.0]),

@@ -13,7 +13,7 @@ pub const FUNCTION: Function = Function {
     rows: &[10],
     walk: None,
     generate: |source| Input::of(&[&inputs::matrix(source)]),
-    port: |lent, rooms| slices::damping_diagonal(lent.numbers(0), rooms[0]),
+    port: |lent, rooms| slices::damping_diagonal(lent.numbers(0), rooms.numbers[0]),
     oracle: |input| Answer::or_row(zeros::damping_diagonal(&input.numbers(0)), 10),
     plain: Some(|input| Answer::or_row(point_block::damping_diagonal(&input.numbers(0)), 10)),
 };

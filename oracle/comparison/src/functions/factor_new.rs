@@ -14,7 +14,7 @@ pub const FUNCTION: Function = Function {
     rows: &[3, 10],
     walk: None,
     generate: |source| Input::of(&[&inputs::matrix(source), &[inputs::damping(source)]]),
-    port: |lent, rooms| slices::factor_new(lent.numbers(0), lent.number(1), rooms[0]),
+    port: |lent, rooms| slices::factor_new(lent.numbers(0), lent.number(1), rooms.numbers[0]),
     oracle: |input| {
         let (matrix, damping) = (input.numbers(0), input.number(1));
         if !(damping.is_finite() && damping >= 0.0) {

@@ -16,7 +16,7 @@ pub const FUNCTION: Function = Function {
         let (inverse, _) = inputs::inverse(source);
         Input::of(&[&inverse, &source.numbers::<3>()])
     },
-    port: |lent, rooms| slices::factor_solve(lent.numbers(0), lent.numbers(1), rooms[0]),
+    port: |lent, rooms| slices::factor_solve(lent.numbers(0), lent.numbers(1), rooms.numbers[0]),
     oracle: |input| Answer::numbers(&point_block::solve(&input.numbers(0), &input.numbers(1))),
     plain: None,
 };

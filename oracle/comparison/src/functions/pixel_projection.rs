@@ -22,7 +22,7 @@ pub const FUNCTION: Function = Function {
         Input::of(&[&camera, &observation, &point])
     },
     port: |lent, rooms| {
-        slices::pixel_projection(lent.numbers(0), lent.numbers(1), lent.numbers(2), rooms[0])
+        slices::pixel_projection(lent.numbers(0), lent.numbers(1), lent.numbers(2), rooms.numbers[0])
     },
     oracle: |input| {
         projection::pixel_projection(&input.numbers(0), &input.numbers(1), &input.numbers(2))

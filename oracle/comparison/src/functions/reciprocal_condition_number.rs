@@ -18,7 +18,7 @@ pub const FUNCTION: Function = Function {
         Input::of(&[&inverse, &matrix])
     },
     port: |lent, rooms| {
-        slices::reciprocal_condition_number(lent.numbers(0), lent.numbers(1), rooms[0])
+        slices::reciprocal_condition_number(lent.numbers(0), lent.numbers(1), rooms.numbers[0])
     },
     oracle: |input| {
         let (inverse, matrix) = (input.numbers(0), input.numbers(1));

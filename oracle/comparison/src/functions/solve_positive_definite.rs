@@ -16,7 +16,7 @@ pub const FUNCTION: Function = Function {
         let (a, b) = inputs::equations(source);
         Input::of(&[&a, &b])
     },
-    port: |lent, rooms| slices::solve_positive_definite(lent.numbers(0), lent.numbers(1), rooms[0]),
+    port: |lent, rooms| slices::solve_positive_definite(lent.numbers(0), lent.numbers(1), rooms.numbers[0]),
     oracle: |input| {
         let solution = solver::solve_positive_definite(&input.numbers(0), &input.numbers(1));
         Answer::or_row(solution, 11)

@@ -21,7 +21,7 @@ const SOUND: Function = Function {
 
 fn sound(lent: &Lent<'_>, rooms: &mut Rooms<'_>) -> u64 {
     let (list, value) = (lent.numbers(0), lent.number(1));
-    if list.len() != 2 || rooms[0].len() != 1 {
+    if list.len() != 2 || rooms.numbers[0].len() != 1 {
         return 1;
     }
     if value >= 0.0 {
@@ -35,7 +35,7 @@ const NEIGHBOUR: Function = Function {
     port: |lent, rooms| {
         let code = sound(lent, rooms);
         if code == 0 {
-            rooms[0][0] = rooms[0][0].next_up();
+            rooms.numbers[0][0] = rooms.numbers[0][0].next_up();
         }
         code
     },
@@ -90,10 +90,10 @@ const OPEN: Function = Function {
     },
     port: |lent, rooms| {
         let (left, right) = (lent.numbers(0), lent.numbers(1));
-        if left.len() != right.len() || left.len() != rooms[0].len() {
+        if left.len() != right.len() || left.len() != rooms.numbers[0].len() {
             return 1;
         }
-        for (index, sum) in rooms[0].iter_mut().enumerate() {
+        for (index, sum) in rooms.numbers[0].iter_mut().enumerate() {
             *sum = left[index] + right[index];
         }
         0
@@ -114,6 +114,7 @@ fn options(threads: u64) -> Options {
         cases: 2000,
         seed: 11,
         functions: Vec::new(),
+        lists: false,
         sample: None,
         lines: 0,
         threads,
