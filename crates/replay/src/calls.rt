@@ -6,6 +6,7 @@ use crate::numbers;
 use crate::outcomes::Outcome;
 use crate::projections;
 use crate::solvers;
+use crate::systems;
 
 pub enum Call {
     Sqrt,
@@ -25,6 +26,14 @@ pub enum Call {
     FactorSolve,
     ReciprocalConditionNumber,
     SolvePositiveDefinite,
+    LinearizePoint,
+    SystemNew,
+    SystemAdd,
+    SystemFinishDamping,
+    SystemIsValid,
+    SystemGradientNorm,
+    SystemPredictedReduction,
+    PointStep,
 }
 
 pub fn outcome(call: Call, case: Case) -> Outcome {
@@ -46,5 +55,13 @@ pub fn outcome(call: Call, case: Case) -> Outcome {
         Call::FactorSolve => blocks::factor_solve(case),
         Call::ReciprocalConditionNumber => blocks::reciprocal_condition_number(case),
         Call::SolvePositiveDefinite => solvers::solve_positive_definite(case),
+        Call::LinearizePoint => systems::linearize_point(case),
+        Call::SystemNew => systems::system_new(case),
+        Call::SystemAdd => systems::system_add(case),
+        Call::SystemFinishDamping => systems::system_finish_damping(case),
+        Call::SystemIsValid => systems::system_is_valid(case),
+        Call::SystemGradientNorm => systems::system_gradient_norm(case),
+        Call::SystemPredictedReduction => systems::system_predicted_reduction(case),
+        Call::PointStep => systems::point_step(case),
     }
 }

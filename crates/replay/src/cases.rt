@@ -68,6 +68,14 @@ impl Case {
         number::from_bits(words[i])
     }
 
+    // The word at i as a whole number of sixteen bits
+    pub(crate) fn count16(self, i: usize) -> u16
+        requires { ⌜ i < 160 ⌝ }
+    {
+        let words = self.words;
+        (words[i] % 65536) as u16
+    }
+
     // The numbers of the words from `start` on
     pub(crate) fn fill(self, start: usize, values: &mut [f64])
         requires { ⌜ start + length (now values) ≤ 160 ⌝ }

@@ -8,6 +8,7 @@ mod numbers;
 mod outcomes;
 mod projections;
 mod solvers;
+mod systems;
 mod tally;
 
 fn main() {
@@ -16,4 +17,5 @@ fn main() {
     projections::replay(&mut text);
     blocks::replay(&mut text);
     solvers::replay(&mut text);
+    systems::replay(&mut text);
 }
