@@ -5,6 +5,7 @@ mod blocks;
 mod projections;
 mod roots;
 mod show;
+mod systems;
 
 fn main() {
     show::named(b"root of 4", number::sqrt(4.0));
@@ -12,6 +13,7 @@ fn main() {
     show::named(b"root of -0", number::sqrt(-0.0));
     projections::print();
     blocks::print();
+    systems::print();
 
     let mut text = [0u8; 16384];
     let n = io::read_full(0, &mut text);

@@ -37,3 +37,15 @@ pub fn refused(refusal: Refusal) {
     io::write_all(1, b" ");
     io::print_decimal(1, refusal.index as u64);
 }
+
+// The same, where there is one
+pub fn refused_if(refusal: Refusal) {
+    if !refusal.is_none() {
+        refused(refusal);
+    }
+}
+
+pub fn count(n: u16) {
+    io::write_all(1, b" ");
+    io::print_decimal(1, n as u64);
+}
