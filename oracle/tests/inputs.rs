@@ -4,7 +4,7 @@
 use oracle::flat::{all_same, same};
 use oracle::generate::{self, Source};
 use oracle::optimizer::{Outcome, limit_pose_step, step, whole_step};
-use oracle::schur::{System, linearize_point, linearize_point_with_deviation};
+use oracle::schur::{Block, Dot, Head, System, linearize_point, linearize_point_with_deviation};
 use oracle::{point_block, projection, schur, solver, zeros};
 
 #[test]
@@ -13,6 +13,20 @@ fn the_same_seed_gives_the_same_inputs() {
     assert_eq!(first.next_bits(), 0x63CB_E1E4_5932_0DD7);
     let numbers = |seed| generate::any_plate(&mut Source::new(seed), 9).points;
     assert!((0..200).all(|seed| all_same(&numbers(seed), &numbers(seed))));
+}
+
+/// Each flat form has the numbers of its fields, in their order.
+#[test]
+fn flat_forms_go_both_ways() {
+    let mut source = Source::new(4);
+    for _ in 0..200 {
+        let (head, dot) = (source.moderates(), source.moderates());
+        assert_eq!(Head::from_numbers(&head).numbers(), head);
+        assert_eq!(Dot::from_numbers(&dot).numbers(), dot);
+        let (block, system) = (source.moderates(), source.moderates());
+        assert_eq!(Block::from_numbers(&block).numbers(), block);
+        assert_eq!(System::from_parts(&system, 3, true).numbers(), system);
+    }
 }
 
 #[test]

@@ -76,6 +76,23 @@ mod tests {
         assert!(inputs.filter(meet).count() >= CASES as usize / 100);
     }
 
+    /// A damping that row 3 refuses also comes to systems that rows 12 and 13
+    /// would refuse.
+    #[test]
+    fn row_3_meets_rows_12_and_13() {
+        let function = &system_add::FUNCTION;
+        let inputs: Vec<_> = (0..CASES).map(|case| function.input(3, case)).collect();
+        for row in [12, 13] {
+            let meet = |input: &&Input| {
+                let mut sound = (*input).clone();
+                sound.0[3] = vec![0];
+                let refused = (function.oracle)(input) == Answer::row(3);
+                refused && (function.oracle)(&sound) == Answer::row(row)
+            };
+            assert!(inputs.iter().filter(meet).count() >= CASES as usize / 100);
+        }
+    }
+
     /// Results and each row have at least a tenth of the cases, or half of an
     /// even share where there are many rows; the rule for zeros has a fiftieth
     /// where it can be seen.
