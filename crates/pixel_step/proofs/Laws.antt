@@ -14,8 +14,12 @@ use Rattle.number.specs.Vectors.{_!_}
 use Rattle.refusal.specs.Refused.{none, isNone}
 use Rattle.refusal.specs.declared.Refusal.{Refusal}
 use Rattle.schur.specs.declared.system.ReducedSystem.{ReducedSystem}
-use Rattle.pixel_step.specs.Flat.{part, put, system, systemNumbers, systemCounts}
-use Rattle.pixel_step.specs.Interface.{code, lengthsCode, stored, answer, Answered, change, Changed}
+use Rattle.optimizer.specs.Problem.{Problem}
+use Rattle.optimizer.specs.Step as Step
+use Rattle.optimizer.specs.declared.Rig.{Rig}
+use Rattle.optimizer.specs.declared.StepResult.{StepResult}
+use Rattle.pixel_step.specs.Flat.{part, put, rig, system, systemNumbers, systemCounts, stepNumbers, stepCount}
+use Rattle.pixel_step.specs.Interface.{code, lengthsCode, stored, answer, Answered, change, Changed, long, step, Stepped}
 
 -- ---- reading
 
@@ -137,6 +141,24 @@ pub changes : (fits : Bool) (refusal r : Refusal) (s t : ReducedSystem) (x after
 unfolding change
 changes fits refusal r s t x after counts now number f p q e =
     rw (not-false fits f, ← p, ← q) (record { same-number = e .0; same-numbers = e .1; same-counts = e .2 })
+
+-- the same of a whole step
+abbrev stepFits : List Float → List Float → List ℕ → Bool
+stepFits x out weak = long x 29 && long out 12 && long weak 1
+
+pub too-short-step : (p : Problem) (x room out : List Float) (weak : List ℕ) (number : ℕ) → not (stepFits x out weak) ≡ true → number ≡ lengthsCode
+    → Stepped number room out weak (step p x room out weak)
+unfolding step
+too-short-step p x room out weak number t e =
+    rw (not-true (stepFits x out weak) t) (record { same-number = e; same-room = refl; same-out = refl; same-weak = refl })
+
+pub steps : (p : Rig → Problem) (g : Rig) (x : List Float) (r : StepResult) (room room′ out out′ : List Float) (weak weak′ : List ℕ) (number : ℕ)
+    → not (stepFits x out weak) ≡ false → g ≡ rig x → Step.Done (p g) room r room′
+    → (number ≡ code (r .refusal)) × (out′ ≡ stored (r .refusal) (stepNumbers r) out) × (weak′ ≡ stored (r .refusal) (stepCount r) weak)
+    → Stepped number room′ out′ weak′ (step (p (rig x)) x room out weak)
+unfolding step
+steps p g x r room room′ out out′ weak weak′ number t k d e =
+    rw (not-false (stepFits x out weak) t, ← k, ← (d .result)) (record { same-number = e .0; same-room = d .room-after; same-out = e .1; same-weak = e .2 })
 
 pub one-set : (l : List ℕ) (a : ℕ) → length l ≡ 1 → set l 0 a ≡ a ∷ []
 one-set [] a e = absurd (omega (arith, e))

@@ -13,6 +13,8 @@ use Rattle.schur.specs.declared.linearize.Dot.{Dot}
 use Rattle.schur.specs.declared.linearize.LocalLinearization.{LocalLinearization}
 use Rattle.schur.specs.declared.linearize.Pose.{Pose}
 use Rattle.schur.specs.declared.system.ReducedSystem.{ReducedSystem}
+use Rattle.optimizer.specs.declared.Rig.{Rig}
+use Rattle.optimizer.specs.declared.StepResult.{StepResult}
 
 -- the numbers from one place up to another
 abbrev pub part : ℕ → ℕ → List Float → List Float
@@ -27,6 +29,10 @@ camera x = record { fx = x ! 0; fy = x ! 1; cx = x ! 2; cy = x ! 3; skew = x ! 4
 
 unfoldable pub pose : List Float → Pose
 pose x = record { rotation = part 0 9 x; translation = part 9 12 x; basis = part 12 18 x; baseline = x ! 18 }
+
+-- camera 1 and 2, rotation, translation, basis, baseline
+unfoldable pub rig : List Float → Rig
+rig x = record { camera1 = camera (part 0 5 x); camera2 = camera (part 5 10 x); pose = pose (part 10 29 x) }
 
 unfoldable pub dot : List Float → Dot
 dot x = record { point = part 0 3 x; view1 = part 3 5 x; view2 = part 5 7 x; «inverse_deviation» = x ! 7 }
@@ -73,3 +79,12 @@ flag b = cond b 1 0
 
 unfoldable pub systemCounts : ReducedSystem → List ℕ
 systemCounts s = s .«weak_point_count» ∷ s .«block_count» ∷ flag (s .valid) ∷ []
+
+-- what a whole step gives, the room apart: twelve numbers and the weak count
+abbrev pub stepNumbers : StepResult → List Float
+stepNumbers s =
+    let p = s .«pose_step» in
+    p ! 0 ∷ p ! 1 ∷ p ! 2 ∷ p ! 3 ∷ p ! 4 ∷ s .cost ∷ s .«squared_residual» ∷ s .«gradient_norm» ∷ s .«minimum_point_rcond» ∷ s .«point_step_rms» ∷ s .«point_damping_norm» ∷ s .«predicted_reduction» ∷ []
+
+abbrev pub stepCount : StepResult → List ℕ
+stepCount s = s .«weak_point_count» ∷ []

@@ -21,7 +21,9 @@ use Rattle.schur.specs.System as System
 use Rattle.schur.specs.Model as Model
 use Rattle.schur.specs.PointStep as PointStep
 use Rattle.schur.specs.declared.system.ReducedSystem.{ReducedSystem}
-use Rattle.pixel_step.specs.Flat.{part, camera, pose, dot, block, blockNumbers, system, systemNumbers, systemCounts, flag}
+use Rattle.optimizer.specs.Problem.{Problem}
+use Rattle.optimizer.specs.Step as Step
+use Rattle.pixel_step.specs.Flat.{camera, rig, dot, block, blockNumbers, system, systemNumbers, systemCounts, flag, stepNumbers, stepCount}
 
 -- a refusal as one number
 unfoldable pub code : Refusal → ℕ
@@ -94,11 +96,10 @@ solvePositiveDefinite a b out =
     let s = Solver.solvePositiveDefinite a b in
     answer (long a 25 && long b 5 && long out 5) (s .refusal) (s .x) out
 
--- head: camera 1 and 2, rotation, translation, basis, baseline
 unfoldable pub linearizePoint : List Float → List Float → List Float → Answer Float
-linearizePoint head d out =
-    let b = Linearize.linearizePoint (camera (part 0 5 head)) (camera (part 5 10 head)) (pose (part 10 29 head)) (dot d) in
-    answer (long head 29 && long d 8 && long out 59) (b .refusal) (blockNumbers b) out
+linearizePoint x d out =
+    let b = Linearize.linearizePoint (rig x .camera1) (rig x .camera2) (rig x .pose) (dot d) in
+    answer (long x 29 && long d 8 && long out 59) (b .refusal) (blockNumbers b) out
 
 unfoldable pub pointStep : List Float → Float → List Float → List Float → Answer Float
 pointStep b damping poseStep out =
@@ -147,3 +148,29 @@ unfoldable pub predictedReduction : List Float → List ℕ → List Float → F
 predictedReduction x counts step damping pointDampingNorm out =
     let p = Model.predictedReduction (system x counts) step damping pointDampingNorm in
     answer (long x 45 && long counts 3 && long step 5 && long out 1) (p .refusal) (p .reduction ∷ []) out
+
+-- ---- the whole step
+
+-- the number that comes back, and the room, the numbers and the count that are lent
+pub record Moved : Type 0 where
+  pub number : ℕ
+  pub room : List Float
+  pub out : List Float
+  pub weak : List ℕ
+
+pub record Stepped (number : ℕ) (room out : List Float) (weak : List ℕ) (a : Moved) : Type 0 where
+  pub same-number : number ≡ a .number
+  pub same-room : room ≡ a .room
+  pub same-out : out ≡ a .out
+  pub same-weak : weak ≡ a .weak
+
+-- row 1 where the rig's length or that of the result's memory does not fit, then the step's own rows or its result
+unfoldable pub step : Problem → List Float → List Float → List Float → List ℕ → Moved
+step p x room out weak =
+    let r = Step.step p (length room) in
+    cond (long x 29 && long out 12 && long weak 1)
+    (record { number = code (r .refusal); room = Step.written p r room; out = stored (r .refusal) (stepNumbers r) out; weak = stored (r .refusal) (stepCount r) weak })
+    (record { number = lengthsCode; room = room; out = out; weak = weak })
+
+unfoldable pub limitPoseStep : List Float → List Float → Answer Float
+limitPoseStep x out = answer (long x 5 && long out 5) none (Step.limitPoseStep x) out

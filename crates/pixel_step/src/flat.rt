@@ -3,6 +3,8 @@ ghost use mathlib.Core.Path.{_≡_};
 ghost use lib.ListN.{length};
 ghost use Rattle.pixel_step.specs.Flat as Flat;
 use crate::memory;
+use optimizer::Rig;
+use optimizer::StepResult;
 use projection::PinholeCamera;
 use refusal::Refusal;
 use schur::Dot;
@@ -32,6 +34,18 @@ pub(crate) fn pose(x: &[f64]) -> Pose
         translation: memory::vector3(&x[9..12]),
         basis: memory::vector6(&x[12..18]),
         baseline: x[18],
+    }
+}
+
+// Camera 1 and 2, then how the second one sits
+pub(crate) fn rig(x: &[f64]) -> Rig
+    requires { ⌜ length (now x) ≡ 29 ⌝ }
+    ensures { λ r. ⌜ r ≡ Flat.rig (now (x .entry)) ⌝ }
+{
+    Rig {
+        camera1: camera(&x[0..5]),
+        camera2: camera(&x[5..10]),
+        pose: pose(&x[10..29]),
     }
 }
 
@@ -122,4 +136,24 @@ pub(crate) fn system_numbers(s: ReducedSystem) -> [f64; 45]
     ];
     memory::put(&last, 42, &mut values);
     values
+}
+
+pub(crate) fn step_numbers(s: StepResult) -> [f64; 12]
+    ensures { λ r. ⌜ r ≡ Flat.stepNumbers s ⌝ }
+{
+    let p = s.pose_step;
+    [
+        p[0],
+        p[1],
+        p[2],
+        p[3],
+        p[4],
+        s.cost,
+        s.squared_residual,
+        s.gradient_norm,
+        s.minimum_point_rcond,
+        s.point_step_rms,
+        s.point_damping_norm,
+        s.predicted_reduction,
+    ]
 }

@@ -10,4 +10,5 @@ pub mod numbers;
 pub mod point_blocks;
 pub mod projections;
 pub mod solvers;
+pub mod steps;
 pub mod systems;

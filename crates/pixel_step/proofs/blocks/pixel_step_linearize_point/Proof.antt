@@ -1,21 +1,19 @@
 -- `pixel_step::blocks::pixel_step_linearize_point` meets its contract. Assumes nothing.
 use mathlib.Core.Path.{_≡_, sym, ap, _∙_}
 use lib.ListN.{length}
-use native.Mathlib.Omega.{arith}
-use Rattle.projection.specs.declared.PinholeCamera.{PinholeCamera}
 use Rattle.schur.specs.Linearize as Linearize
 use Rattle.schur.specs.declared.linearize.Dot.{Dot}
 use Rattle.schur.specs.declared.linearize.LocalLinearization.{LocalLinearization}
-use Rattle.schur.specs.declared.linearize.Pose.{Pose}
-use Rattle.pixel_step.specs.Flat.{part, camera, pose, blockNumbers}
+use Rattle.optimizer.specs.declared.Rig.{Rig}
+use Rattle.pixel_step.specs.Flat.{rig, blockNumbers}
 use Rattle.pixel_step.specs.Interface.{linearizePoint}
 use Rattle.pixel_step.proofs.Laws.{too-short, answers, three-fit}
 use borrow.Author.Needs.{needs}
 use Rattle.pixel_step.proofs.blocks.pixel_step_linearize_point.Statement.{statement}
 use Rattle.pixel_step.proofs.blocks.pixel_step_linearize_point.Tie as tie
 
-fit : (c : tie.Else1) → (length (c .before .before .before .before .args .head .now) ≡ 29) × (length (c .before .before .before .before .args .dot .now) ≡ 8) × (length (c .before .before .before .before .args .out .now) ≡ 59)
-fit c = three-fit (length (c .before .before .before .before .args .head .now)) (length (c .before .before .before .before .args .dot .now)) (length (c .before .before .before .before .args .out .now)) 29 8 59 (c .if1 .left)
+fit : (c : tie.Else1) → (length (c .before .before .before .before .args .rig .now) ≡ 29) × (length (c .before .before .before .before .args .dot .now) ≡ 8) × (length (c .before .before .before .before .args .out .now) ≡ 59)
+fit c = three-fit (length (c .before .before .before .before .args .rig .now)) (length (c .before .before .before .before .args .dot .now)) (length (c .before .before .before .before .args .out .now)) 29 8 59 (c .if1 .left)
 
 -- the array has its length
 sized : (c : tie.After-answer-arg) → length (c .before .before .block-numbers .result) ≡ 59
@@ -25,35 +23,25 @@ returns : tie.Need-returns
 unfolding linearizePoint
 returns c = too-short _ _ _ _ _ (c .before .if1 .taken) (c .lengths .ensures)
 
-part-camera-end : tie.Need-part-camera-end
-part-camera-end c = omega (arith, fit c .0)
-
-part-camera-end-2 : tie.Need-part-camera-end-2
-part-camera-end-2 c = omega (arith, fit (c .before .before) .0)
-
-part-pose-end : tie.Need-part-pose-end
-part-pose-end c = omega (arith, fit (c .before .before .before .before) .0)
+rig-requires : tie.Need-rig-requires
+rig-requires c κs = fit c .0
 
 dot-requires : tie.Need-dot-requires
-dot-requires c κs = fit (c .before .before .before .before .before .before) .1
+dot-requires c κs = fit (c .before .before .before .before) .1
 
 answer-requires : tie.Need-answer-requires
-answer-requires c κs = sized c ∙ sym (fit (c .before .before .before .before .before .before .before .before .before .before .before .before) .2)
+answer-requires c κs = sized c ∙ sym (fit (c .before .before .before .before .before .before .before .before .before .before) .2)
 
 returns-2 : tie.Need-returns-2
 unfolding linearizePoint
 returns-2 c =
-    let h = c .before .before .before .before .before .before .before .before .before .before .before .before .before .before .before .before .before .before .before .args .head .now in
-    let two = c .before .before .before .before .before .before .before .before .before .before .before .camera2 in
-    let p = c .before .before .before .before .before .before .before .before .before .pose in
+    let g = c .before .before .before .before .before .before .before .before .before .before .before .before .rig in
     let d = c .before .before .before .before .before .before .before .before .dot in
     let e =
     c .before .before .before .before .before .before .before .linearize-point .ensures
-    ∙ ap (λ (x : PinholeCamera). Linearize.linearizePoint x (two .result) (p .result) (d .result)) (c .before .before .before .before .before .before .before .before .before .before .before .before .before .camera .ensures)
-    ∙ ap (λ (x : PinholeCamera). Linearize.linearizePoint (camera (part 0 5 h)) x (p .result) (d .result)) (two .ensures)
-    ∙ ap (λ (x : Pose). Linearize.linearizePoint (camera (part 0 5 h)) (camera (part 5 10 h)) x (d .result)) (p .ensures)
-    ∙ ap (λ (x : Dot). Linearize.linearizePoint (camera (part 0 5 h)) (camera (part 5 10 h)) (pose (part 10 29 h)) x) (d .ensures) in
-    answers _ _ _ _ _ _ _ _ (c .before .before .before .before .before .before .before .before .before .before .before .before .before .before .before .if1 .left) (ap (λ (b : LocalLinearization). b .refusal) e) (c .before .before .before .before .before .block-numbers .ensures ∙ ap blockNumbers e) (c .before .before .answer .ensures)
+    ∙ ap (λ (x : Rig). Linearize.linearizePoint (x .camera1) (x .camera2) (x .pose) (d .result)) (g .ensures)
+    ∙ ap (λ (x : Dot). Linearize.linearizePoint (rig (c .before .before .before .before .before .before .before .before .before .before .before .before .before .before .before .before .before .args .rig .now) .camera1) (rig (c .before .before .before .before .before .before .before .before .before .before .before .before .before .before .before .before .before .args .rig .now) .camera2) (rig (c .before .before .before .before .before .before .before .before .before .before .before .before .before .before .before .before .before .args .rig .now) .pose) x) (d .ensures) in
+    answers _ _ _ _ _ _ _ _ (c .before .before .before .before .before .before .before .before .before .before .before .before .before .if1 .left) (ap (λ (b : LocalLinearization). b .refusal) e) (c .before .before .before .before .before .block-numbers .ensures ∙ ap blockNumbers e) (c .before .before .answer .ensures)
 
 pub pixel-step-linearize-point-spec : {M : Type 1} → statement M
 pixel-step-linearize-point-spec =
@@ -61,18 +49,7 @@ pixel-step-linearize-point-spec =
     (tie.spec
     (λ c κs. search needs)
     returns
-    (λ c. search needs)
-    (λ c. search needs)
-    part-camera-end
-    (λ c κs. search needs)
-    (λ c. search needs)
-    (λ c. search needs)
-    part-camera-end-2
-    (λ c κs. search needs)
-    (λ c. search needs)
-    (λ c. search needs)
-    part-pose-end
-    (λ c κs. search needs)
+    rig-requires
     dot-requires
     (λ c κs. search needs)
     (λ c κs. search needs)
