@@ -1,20 +1,26 @@
 /*
- * The pixel alignment step of a two-camera head: the C interface of libpixel_step.a, for x86-64.
+ * The pixel alignment step of a two-camera rig: the C interface of libpixel_step.a, for x86-64.
  * Compiles as C99 and as C++.
  *
  * Numbers are binary64, and vectors and matrices flat arrays, row by row. Each array passes as a pointer and
- * then its length. An array may not overlap one that the call writes: `out`, or a system that it changes.
+ * then its length. An array may not overlap one that the call writes: `out`, `room`, `weak`, or a system that it
+ * changes.
  *
  * A call with an `out` answers 0 and writes its result there, or answers a refusal as one number and writes
- * nothing; so does a call that changes a system. The refusal's parts are below: the number of the row, and the view and the index, 0 where they have
- * no sense. An array whose length is not the one that is named beside it here is row 1. No call has any other
- * condition: every input ends in a result or in a refusal.
+ * nothing; so does a call that changes a system. The refusal's parts are below: the number of the row, and the
+ * view and the index, 0 where they have no sense. An array whose length is not the one that is named beside it
+ * here is row 1. No call has any other condition: every input ends in a result or in a refusal.
  *
  *   row  1  a length does not fit
+ *   row  2  more than 65,535 points
  *   row  3  damping not finite or below 0
  *   row  4  inverse deviation not finite or not above 0
+ *   row  5  baseline not finite or not above 2^-46
+ *   row  6  point coordinate not finite
+ *   row  7  fewer than 5 points
+ *   row  8  observation not finite
  *   row  9  the point is not projectable
- *   row 10  the block does not factor
+ *   row 10  the block does not factor, or the system is not valid
  *   row 11  the system of five equations is not solved
  *   row 12  the system's weak count is above its block count
  *   row 13  the system has 65,535 blocks already
@@ -91,12 +97,12 @@ uint64_t pixel_step_solve_positive_definite(const double *a, size_t a_length,
 
 /*
  * The block of a point: what it adds to the system. Rows 4, 9; row 9 has view 1 or 2.
- * head (29): camera 1 and camera 2, 5 each; rotation, 9; translation, 3; two basis vectors, 3 each; baseline
+ * rig (29): camera 1 and camera 2, 5 each; rotation, 9; translation, 3; two basis vectors, 3 each; baseline
  * dot (8): point, 3; where view 1 and view 2 saw it, 2 each; inverse deviation
  * out (59), a block: pose Hessian, 25; cross Hessian, 15; point Hessian, 9; pose gradient, 5; point gradient, 3;
  * cost; squared residual
  */
-uint64_t pixel_step_linearize_point(const double *head, size_t head_length,
+uint64_t pixel_step_linearize_point(const double *rig, size_t rig_length,
                                     const double *dot, size_t dot_length,
                                     double *out, size_t out_length);
 
@@ -139,6 +145,27 @@ uint64_t pixel_step_system_predicted_reduction(const double *system, size_t syst
                                                const double *step, size_t step_length,
                                                double damping, double point_damping_norm,
                                                double *out, size_t out_length);
+
+/*
+ * One whole step for n points. Rows 1 to 11: the first that holds, at the lowest index; row 8 looks through all of
+ * view 1 first, row 9 takes both views of a point before the next point.
+ * points (3n); view1 and view2 (2n each); inverse_deviations (n); rig (29), as above
+ * room (3n): the step of each point, before any product with the baseline
+ * out (12): step of the pose, limited, 5; cost; squared residual; gradient norm; smallest rcond; RMS of the point
+ * steps; their damping norm; predicted reduction
+ * weak (1): weak count
+ */
+uint64_t pixel_step_step(const double *points, size_t points_length,
+                         const double *view1, size_t view1_length,
+                         const double *view2, size_t view2_length,
+                         const double *inverse_deviations, size_t inverse_deviations_length,
+                         const double *rig, size_t rig_length, double damping,
+                         double *room, size_t room_length,
+                         double *out, size_t out_length,
+                         uint16_t *weak, size_t weak_length);
+
+/* A step of the pose, limited to 0.5 in rotation and in translation. x (5); out (5) */
+uint64_t pixel_step_limit_pose_step(const double *x, size_t x_length, double *out, size_t out_length);
 
 #ifdef __cplusplus
 }

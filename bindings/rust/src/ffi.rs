@@ -89,8 +89,8 @@ unsafe extern "C" {
     ) -> u64;
 
     pub fn pixel_step_linearize_point(
-        head: *const f64,
-        head_len: usize,
+        rig: *const f64,
+        rig_len: usize,
         dot: *const f64,
         dot_len: usize,
         out: *mut f64,
@@ -159,6 +159,33 @@ unsafe extern "C" {
         step_len: usize,
         damping: f64,
         point_damping_norm: f64,
+        out: *mut f64,
+        out_len: usize,
+    ) -> u64;
+
+    pub fn pixel_step_step(
+        points: *const f64,
+        points_len: usize,
+        view1: *const f64,
+        view1_len: usize,
+        view2: *const f64,
+        view2_len: usize,
+        inverse_deviations: *const f64,
+        inverse_deviations_len: usize,
+        rig: *const f64,
+        rig_len: usize,
+        damping: f64,
+        room: *mut f64,
+        room_len: usize,
+        out: *mut f64,
+        out_len: usize,
+        weak: *mut u16,
+        weak_len: usize,
+    ) -> u64;
+
+    pub fn pixel_step_limit_pose_step(
+        x: *const f64,
+        x_len: usize,
         out: *mut f64,
         out_len: usize,
     ) -> u64;

@@ -2,8 +2,8 @@
 //! 1; the answer is the code that `Refusal::from_code` reads.
 //!
 //! Why these are safe: a call reads no further than the lengths that it is
-//! given, and writes only `out`, or the system that it changes, and that only
-//! where it answers 0.
+//! given, and writes only `out`, the room, the weak count, or the system that it
+//! changes, and that only where it answers 0.
 
 use crate::ffi;
 
@@ -123,12 +123,12 @@ pub fn solve_positive_definite(a: &[f64], b: &[f64], out: &mut [f64]) -> u64 {
     }
 }
 
-/// `head` 29, `dot` 8, `out` 59.
-pub fn linearize_point(head: &[f64], dot: &[f64], out: &mut [f64]) -> u64 {
+/// `rig` 29, `dot` 8, `out` 59.
+pub fn linearize_point(rig: &[f64], dot: &[f64], out: &mut [f64]) -> u64 {
     unsafe {
         ffi::pixel_step_linearize_point(
-            head.as_ptr(),
-            head.len(),
+            rig.as_ptr(),
+            rig.len(),
             dot.as_ptr(),
             dot.len(),
             out.as_mut_ptr(),
@@ -248,4 +248,46 @@ pub fn system_predicted_reduction(
             out.len(),
         )
     }
+}
+
+/// For n points: `points` and `room` 3n, `view1` and `view2` 2n,
+/// `inverse_deviations` n; `rig` 29, `out` 12, `weak` 1.
+#[allow(clippy::too_many_arguments, reason = "as the C interface has them")]
+pub fn step(
+    points: &[f64],
+    view1: &[f64],
+    view2: &[f64],
+    inverse_deviations: &[f64],
+    rig: &[f64],
+    damping: f64,
+    room: &mut [f64],
+    out: &mut [f64],
+    weak: &mut [u16],
+) -> u64 {
+    unsafe {
+        ffi::pixel_step_step(
+            points.as_ptr(),
+            points.len(),
+            view1.as_ptr(),
+            view1.len(),
+            view2.as_ptr(),
+            view2.len(),
+            inverse_deviations.as_ptr(),
+            inverse_deviations.len(),
+            rig.as_ptr(),
+            rig.len(),
+            damping,
+            room.as_mut_ptr(),
+            room.len(),
+            out.as_mut_ptr(),
+            out.len(),
+            weak.as_mut_ptr(),
+            weak.len(),
+        )
+    }
+}
+
+/// `x` 5, `out` 5.
+pub fn limit_pose_step(x: &[f64], out: &mut [f64]) -> u64 {
+    unsafe { ffi::pixel_step_limit_pose_step(x.as_ptr(), x.len(), out.as_mut_ptr(), out.len()) }
 }

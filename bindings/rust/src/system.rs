@@ -4,7 +4,7 @@
 use crate::{Refusal, filled, slices};
 
 /// Cameras, rotation, translation, basis and baseline.
-pub type Head = [f64; 29];
+pub type Rig = [f64; 29];
 
 /// A point, where both views saw it, and its inverse deviation.
 pub type Dot = [f64; 8];
@@ -20,8 +20,8 @@ pub struct PointStep {
 }
 
 /// The block of a dot. Row 4, and row 9 with view 1 or 2.
-pub fn linearize_point(head: &Head, dot: &Dot) -> Result<Block, Refusal> {
-    filled(|out| slices::linearize_point(head, dot, out))
+pub fn linearize_point(rig: &Rig, dot: &Dot) -> Result<Block, Refusal> {
+    filled(|out| slices::linearize_point(rig, dot, out))
 }
 
 /// How a point moves with a step of the pose. Rows 3 and 10.

@@ -10,7 +10,7 @@ use crate::inputs;
 
 pub const FUNCTION: Function = Function {
     name: "linearize_point",
-    arguments: &[lent("head", 29), lent("dot", 8), room(59)],
+    arguments: &[lent("rig", 29), lent("dot", 8), room(59)],
     rows: &[4, 9],
     walk: None,
     generate: |source| {
