@@ -130,7 +130,6 @@ pub const fn room(length: usize) -> Argument {
 }
 
 /// An argument of any length.
-#[allow(dead_code, reason = "for the whole step and the run record")]
 pub const fn open(name: &'static str, kind: Kind) -> Argument {
     Argument::new(name, kind, None)
 }
@@ -235,6 +234,13 @@ impl Function {
     /// How many cases a run of so many seeded ones has, wrong lengths aside.
     pub fn count(&self, cases: u64) -> u64 {
         self.walked() + cases
+    }
+
+    /// Some argument may have any length.
+    pub fn is_open(&self) -> bool {
+        self.arguments
+            .iter()
+            .any(|argument| argument.length.is_none())
     }
 
     /// How many cases come before the seeded ones.

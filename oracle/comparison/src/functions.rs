@@ -35,6 +35,8 @@ functions! {
     system_scaled_gradient_inf_norm
     system_predicted_reduction
     point_step_with_damping_norm
+    step
+    limit_pose_step
 }
 
 // Until the port has the call.

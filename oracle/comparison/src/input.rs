@@ -60,6 +60,14 @@ impl Input {
         std::array::from_fn(|index| self.0[argument][index] as u16)
     }
 
+    /// An argument of any length.
+    pub fn list(&self, argument: usize) -> Vec<f64> {
+        self.0[argument]
+            .iter()
+            .map(|&entry| f64::from_bits(entry))
+            .collect()
+    }
+
     /// An argument of `N` numbers.
     pub fn numbers<const N: usize>(&self, argument: usize) -> [f64; N] {
         std::array::from_fn(|index| f64::from_bits(self.0[argument][index]))

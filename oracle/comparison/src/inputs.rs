@@ -4,6 +4,7 @@
 mod equations;
 mod matrices;
 mod sights;
+mod steps;
 mod systems;
 
 use oracle::generate::{self, Source};
@@ -14,6 +15,7 @@ use crate::input::Input;
 pub use equations::equations;
 pub use matrices::{inverse, matrix};
 pub use sights::sight;
+pub use steps::{MANY_POINTS, pose_step, problem};
 pub use systems::{MOST_BLOCKS, block, dot, system};
 
 /// 64ε: depths and pivots at or below it are refused.

@@ -169,7 +169,7 @@ mod tests {
 
     #[test]
     fn a_sample_has_each_answer_and_no_line_twice() {
-        for function in ALL {
+        for function in ALL.iter().filter(|function| !function.is_open()) {
             let (lines, tally) = collect(function, 1, 40).expect("a full sample");
             let all = 40.min(most(function)) as usize * (1 + function.rows.len());
             assert!((lines.concat().len() as u64) < BYTES);
@@ -181,14 +181,10 @@ mod tests {
     }
 
     /// Capital patterns and single spaces; as many, and as wide, as the arguments
-    /// have, if their lengths are not open; every NaN of an answer in one pattern.
+    /// have; every NaN of an answer in one pattern.
     #[test]
     fn a_line_has_the_form() {
-        let of_numbers = |function: &&&Function| {
-            let mut lengths = function.arguments.iter().map(|a| a.length);
-            lengths.all(|length| length.is_some())
-        };
-        for function in ALL.iter().filter(of_numbers) {
+        for function in ALL.iter().filter(|function| !function.is_open()) {
             let (lines, _) = collect(function, 2, 40).expect("a full sample");
             for line in &lines {
                 let (given, answer) = line.trim_end().split_once(" = ").expect("one sign");
