@@ -5,6 +5,7 @@ mod blocks;
 mod projections;
 mod roots;
 mod show;
+mod steps;
 mod systems;
 
 fn main() {
@@ -14,6 +15,7 @@ fn main() {
     projections::print();
     blocks::print();
     systems::print();
+    steps::print();
 
     let mut text = [0u8; 16384];
     let n = io::read_full(0, &mut text);
