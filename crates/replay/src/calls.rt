@@ -6,6 +6,7 @@ use crate::numbers;
 use crate::outcomes::Outcome;
 use crate::projections;
 use crate::solvers;
+use crate::steps;
 use crate::systems;
 
 pub enum Call {
@@ -34,6 +35,7 @@ pub enum Call {
     SystemGradientNorm,
     SystemPredictedReduction,
     PointStep,
+    LimitPoseStep,
 }
 
 pub fn outcome(call: Call, case: Case) -> Outcome {
@@ -63,5 +65,6 @@ pub fn outcome(call: Call, case: Case) -> Outcome {
         Call::SystemGradientNorm => systems::system_gradient_norm(case),
         Call::SystemPredictedReduction => systems::system_predicted_reduction(case),
         Call::PointStep => systems::point_step(case),
+        Call::LimitPoseStep => steps::limit_pose_step(case),
     }
 }

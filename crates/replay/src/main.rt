@@ -8,6 +8,7 @@ mod numbers;
 mod outcomes;
 mod projections;
 mod solvers;
+mod steps;
 mod systems;
 mod tally;
 
@@ -18,4 +19,5 @@ fn main() {
     blocks::replay(&mut text);
     solvers::replay(&mut text);
     systems::replay(&mut text);
+    steps::replay(&mut text);
 }
