@@ -95,6 +95,23 @@ mod tests {
         }
     }
 
+    /// Row 2 comes up in the walk of the whole step alone, beside results with
+    /// the most points.
+    #[test]
+    fn many_points_are_stepped_or_refused() {
+        let function = &step::FUNCTION;
+        let mut tally = Tally::default();
+        for case in 0..function.walked() {
+            let input = function.input(3, case);
+            let answer = (function.oracle)(&input);
+            let many = input.0[3].len() > 65_535;
+            assert!(!(many && matches!(answer, Answer::Result(_))));
+            tally.count(&answer);
+        }
+        assert!(tally.results >= 4, "{tally}");
+        assert_eq!(tally.refused.get(&2), Some(&7), "{tally}");
+    }
+
     /// Results and each row have at least a tenth of the cases, or half of an
     /// even share where there are many rows; the rule for zeros has a fiftieth
     /// where it can be seen.
