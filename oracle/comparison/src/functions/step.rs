@@ -6,7 +6,7 @@ use oracle::optimizer::{Plate, whole_step};
 use oracle::schur::Head;
 use pixel_step::{Refusal, slices};
 
-use crate::function::{Answer, Function, Kind, count_room, lent, number, open, room};
+use crate::function::{Answer, Argument, Function, Kind, count_room, lent, number, open, room};
 use crate::input::Input;
 use crate::inputs;
 
@@ -21,7 +21,10 @@ pub const FUNCTION: Function = Function {
         number("damping"),
         open("room", Kind::Room),
         room(12),
-        count_room(1),
+        Argument {
+            name: "weak",
+            ..count_room(1)
+        },
     ],
     rows: &[1, 3, 4, 5, 6, 7, 8, 9, 10, 11],
     walk: Some(inputs::MANY_POINTS),
