@@ -1,7 +1,8 @@
 -- The first refusal of a list, and among indexes. Assumes nothing.
 use mathlib.Core.Path.{_≡_, refl, sym, ap, _∙_}
-use mathlib.Core.Bool.{Bool, true, false, not}
-use Prim.Native.Nat.{ℕ, suc, _+_, _-_, _≤_, _<_}
+use mathlib.Core.Bool.{Bool, true, false, not, cond, true≢false}
+use Prim.Native.Nat.{ℕ, zero, suc, _+_, _-_, _≤_, _<_}
+use native.Mathlib.Nat.{add-zero, add-suc, suc-add, zero-add}
 use native.Mathlib.Numerals.{add-one}
 use native.Mathlib.Omega.{arith}
 use borrow.Author.Tests.{not-true, not-false}
@@ -76,3 +77,31 @@ row-refuses row view i e = e
 pub none-refuses : (r : Refusal) → r ≡ none → isNone r ≡ true
 unfolding isNone
 none-refuses r e = rw e refl
+
+-- ---- what no refusal says
+
+pub after-none : (x s : Refusal) → isNone (orElse x s) ≡ true → (isNone x ≡ true) × (isNone s ≡ true)
+after-none x s e = by (isNone x) refl e
+  where
+    by : (b : Bool) → isNone x ≡ b → isNone (cond b s x) ≡ true → (isNone x ≡ true) × (isNone s ≡ true)
+    by true q h = (q, h)
+    by false q h = absurd (true≢false (sym h ∙ q))
+
+pub held : (good : Bool) (x : Refusal) → isNone x ≡ false → isNone (unless good x) ≡ true → good ≡ true
+held true x n e = refl
+held false x n e = absurd (true≢false (sym e ∙ n))
+
+-- a check that no index fails
+none-from : (check : ℕ → Refusal) (left start j : ℕ) → j < left → isNone (first check start left) ≡ true → isNone (check (start + j)) ≡ true
+unfolding first
+none-from check zero start j k e = absurd (omega arith)
+none-from check (suc left) start zero k e = ap (λ (i : ℕ). isNone (check i)) (add-zero start) ∙ after-none (check start) (first check (suc start) left) e .0
+none-from check (suc left) start (suc j) k e =
+    ap (λ (i : ℕ). isNone (check i)) (add-suc start j ∙ sym (suc-add start j)) ∙ none-from check left (suc start) j (omega arith) (after-none (check start) (first check (suc start) left) e .1)
+
+pub all-none : (check : ℕ → Refusal) (n i : ℕ) → i < n → isNone (first check 0 n) ≡ true → isNone (check i) ≡ true
+all-none check n i h e = ap (λ (j : ℕ). isNone (check j)) (sym (zero-add i)) ∙ none-from check n 0 i h e
+
+-- a good test refuses nothing
+pub good : (place : Refusal) (x b : Bool) → b ≡ x → not b ≡ false → unless x place ≡ none
+good place x b e t = rw (← e, not-false b t) refl
