@@ -1,12 +1,13 @@
 -- "Once the system is valid no point step is refused" (document 01, "One whole step"): the claim on lists of calls of `add` says that each block factors. Assumes nothing.
 use mathlib.Core.Path.{_≡_, refl, sym, ap, _∙_}
-use mathlib.Core.Bool.{Bool, true, false, _&&_, true≢false}
+use mathlib.Core.Bool.{Bool, true, false, not, _&&_, cond, true≢false}
 use mathlib.Core.List.{List, [], _∷_}
 use Prim.Native.Nat.{ℕ, zero, suc, _+_, _≤_, _<_}
 use native.Mathlib.Nat.{add-zero, add-suc, suc-add, zero-add}
 use native.Mathlib.Omega.{arith}
 use borrow.Author.Tests.{lt-ltb}
 use lib.Dec.{T}
+use lib.ListN.{length}
 use lib.Ieee.{Float}
 use lib.Ieee.Bits.{is-true}
 use Rattle.number.specs.Vectors.{allFinite}
@@ -15,7 +16,9 @@ use Rattle.point_block.specs.Lone.{goodDamping}
 use Rattle.point_block.proofs.Laws.{lone-factors}
 use Rattle.schur.specs.Model.{withHessian, finishDamping, isValid}
 use Rattle.schur.specs.PointStep.{stepped, pointStep}
-use Rattle.schur.specs.Calls.{Inputs, Call, atDamping, after, factors, blocksIn, every}
+use Rattle.schur.specs.System.{newSystem}
+use Rattle.schur.specs.Claim.{WeakCount}
+use Rattle.schur.specs.Calls.{Inputs, Call, atDamping, after, factors, smallRcond, atZero, blocksIn, every, those}
 use Rattle.schur.specs.declared.linearize.LocalLinearization.{LocalLinearization}
 use Rattle.schur.specs.declared.system.ReducedSystem.{ReducedSystem}
 use Rattle.schur.proofs.Claim.{claim}
@@ -69,6 +72,10 @@ same-flag : (s : ReducedSystem) (d : Float) → T (goodDamping d) → finishDamp
 unfolding finishDamping withHessian
 same-flag s d g = rw (is-true (goodDamping d) g) refl
 
+same-count : (s : ReducedSystem) (d : Float) → T (goodDamping d) → finishDamping s d .system .«weak_point_count» ≡ s .«weak_point_count»
+unfolding finishDamping withHessian
+same-count s d g = rw (is-true (goodDamping d) g) refl
+
 steps : (b : LocalLinearization) (d : Float) (s : List Float) → T (goodDamping d) → factors d b ≡ true → pointStep b d s .refusal ≡ none
 unfolding pointStep stepped factors
 steps b d s g e = rw (is-true (goodDamping d) g, sym (lone-factors (b .«point_hessian») d g) ∙ e) refl
@@ -90,3 +97,47 @@ module _ (p : Problem) (good : T (goodDamping (p .damping))) (h : count p ≤ 65
   no-step-refused i k s =
       steps (blockAt p i) (p .damping) s good
       (ap (λ (j : ℕ). factors (p .damping) (blockAt p j)) (sym (zero-add i)) ∙ each p (factors (p .damping)) 0 (count p) i all-factor k)
+
+-- ---- the weak count is at most the number of points
+
+length-blocks : (p : Problem) (i n : ℕ) → length (blocks p i n) ≡ n
+length-blocks p i zero = refl
+length-blocks p i (suc n) = ap suc (length-blocks p (suc i) n)
+
+apart : (f s : LocalLinearization → Bool) (bs : List LocalLinearization) → length (those (λ b. not (f b)) bs) + length (those (λ b. f b && s b) bs) ≤ length bs
+apart f s [] = omega arith
+apart f s (b ∷ bs) = by (f b) (s b) (apart f s bs)
+  where
+    by : (x y : Bool) → length (those (λ b. not (f b)) bs) + length (those (λ b. f b && s b) bs) ≤ length bs
+        → length (cond (not x) (b ∷ those (λ b. not (f b)) bs) (those (λ b. not (f b)) bs)) + length (cond (x && y) (b ∷ those (λ b. f b && s b) bs) (those (λ b. f b && s b) bs)) ≤ suc (length bs)
+    by true true h = omega arith
+    by true false h = omega arith
+    by false y h = omega arith
+
+module _ (p : Problem) (good : T (goodDamping (p .damping))) (h : count p ≤ 65535) where
+  same-weak : reducedSystem p .«weak_point_count» ≡ systemTo p (count p) .«weak_point_count»
+  unfolding reducedSystem
+  same-weak = same-count (systemTo p (count p)) (p .damping) good
+
+  weak-of-calls : (n : ℕ) → n ≡ systemTo p (count p) .«weak_point_count» → n ≤ length (blocksIn 0 (calls p 0 (count p)))
+  unfolding systemTo
+  weak-of-calls n e = by (atZero (p .damping)) refl
+    where
+      c : WeakCount (p .damping) (after (p .damping) newSystem (calls p 0 (count p)) .«weak_point_count») (blocksIn 0 (calls p 0 (count p)))
+      c = claim (p .damping) good (calls p 0 (count p)) .weak
+
+      same : n ≡ after (p .damping) newSystem (calls p 0 (count p)) .«weak_point_count»
+      same = e ∙ sym (ap (λ (t : ReducedSystem). t .«weak_point_count») (after-calls p 0 (count p) ∙ ap (λ (k : ℕ). systemTo p k) (zero-add (count p))))
+
+      by : (b : Bool) → atZero (p .damping) ≡ b → n ≤ length (blocksIn 0 (calls p 0 (count p)))
+      by true z =
+          let w = same ∙ c .undamped z in
+          let k = apart (factors (p .damping)) (smallRcond (p .damping)) (blocksIn 0 (calls p 0 (count p))) in
+          omega arith
+      by false z = let w = same ∙ c .damped z in omega arith
+
+  pub weak-at-most : reducedSystem p .«weak_point_count» ≤ count p
+  weak-at-most =
+      let w = weak-of-calls (reducedSystem p .«weak_point_count») same-weak in
+      let l = ap length (all-taken p 0 0 (count p) (omega arith)) ∙ length-blocks p 0 (count p) in
+      omega arith

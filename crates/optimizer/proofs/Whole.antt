@@ -21,7 +21,7 @@ use Rattle.optimizer.specs.declared.point_steps.Sums.{Sums}
 use Rattle.optimizer.specs.Problem.{Problem, count}
 use Rattle.optimizer.specs.Checks as Checks
 use Rattle.optimizer.specs.Step.{reducedSystem, noSystem, reduced, poseStep, solvedOf, poseStepOf, stepsTo, sumsTo, finished, notStepped, stepped, solvedStep, refused, step, written, Done}
-use Rattle.refusal.proofs.Scans.{stop-unless, pass-unless, row-refuses}
+use Rattle.refusal.proofs.Scans.{stop-unless, pass-unless, row-refuses, after-none, held}
 use Rattle.optimizer.proofs.Parts.{all-fit}
 use Rattle.optimizer.proofs.PointSteps.{no-step-refused}
 
@@ -67,17 +67,6 @@ module _ (p : Problem) (room : List Float) (r : StepResult) (system : ReducedSys
       )
 
 -- ---- what a step that is not refused says of the checks before it
-
-after-none : (x s : Refusal) → isNone (orElse x s) ≡ true → (isNone x ≡ true) × (isNone s ≡ true)
-after-none x s e = by (isNone x) refl e
-  where
-    by : (b : Bool) → isNone x ≡ b → isNone (cond b s x) ≡ true → (isNone x ≡ true) × (isNone s ≡ true)
-    by true q h = (q, h)
-    by false q h = absurd (true≢false (sym h ∙ q))
-
-held : (good : Bool) (x : Refusal) → isNone x ≡ false → isNone (unless good x) ≡ true → good ≡ true
-held true x n e = refl
-held false x n e = absurd (true≢false (sym e ∙ n))
 
 pub checked : (p : Problem) → isNone (Checks.refused p) ≡ true → Checks.Fits (p .points) (p .view1) (p .view2) (p .deviations) × T (goodDamping (p .damping))
 unfolding Checks.refused Checks.valuesRefused

@@ -1,0 +1,103 @@
+-- The numbers of a record by point and by column, and the lines of its points. Assumes nothing.
+use mathlib.Core.Path.{_≡_, refl, sym, ap, _∙_}
+use mathlib.Core.List.{List}
+use Prim.Native.Nat.{ℕ, zero, suc, _+_, _*_, _/_, _%_, _≤_, _<_}
+use native.Mathlib.Nat.{div-add-mod', mod-lt, mul-comm, mul-le-mul-right}
+use native.Mathlib.Numerals.{add-one}
+use native.Mathlib.Omega.{arith}
+use mathlib.Core.Bool.{Bool, true, false}
+use borrow.Author.Tests.{ltb-true, ltb-false}
+use lib.Dec.{ltb}
+use lib.ListN.{length}
+use lib.Ieee.{Float}
+use Rattle.number.specs.Vectors.{_!_, tabulate}
+use Rattle.schur.specs.declared.linearize.Dot.{Dot}
+use Rattle.schur.specs.declared.linearize.LocalLinearization.{LocalLinearization}
+use Rattle.optimizer.specs.declared.Rig.{Rig}
+use Rattle.optimizer.specs.Problem.{Problem, problem, dotAt, blockOf, blockAt}
+use Rattle.record.specs.Form.{pointFields, Formed}
+use Rattle.record.specs.Run.{numberAt, rig, damping, column, run, dotOf}
+use Rattle.record.specs.Lists.{letter, pointLine, pointLines}
+use Rattle.record.specs.Text.{Put}
+use Rattle.record.proofs.Puts.{put-none, put-same, put-put}
+
+entry : (n : ℕ) (f : ℕ → Float) (i : ℕ) → i < n → tabulate n f ! i ≡ f i
+entry zero f i h = absurd (omega arith)
+entry (suc n) f zero h = refl
+entry (suc n) f (suc i) h = entry n (λ j. f (suc j)) i (omega arith)
+
+-- an entry of a column is the number where it stands in the record
+pub place : (r : List ℕ) (first each j at : ℕ) → 258 + first + 67 * (j / each) + 8 * (j % each) ≡ at → column r first each j ≡ numberAt r at
+unfolding column
+place r first each j at e = ap (λ (k : ℕ). numberAt r k) e
+
+module _ (r : List ℕ) (i : ℕ) (h : i < pointFields r) where
+  abbrev n : ℕ
+  n = pointFields r
+
+  abbrev at : ℕ
+  at = 258 + 67 * i
+
+  abbrev cell : ℕ → ℕ → ℕ → ℕ → ℕ → Type 0
+  cell count first each j k = tabulate count (column r first each) ! j ≡ numberAt r k
+
+  -- the lists of all points have the point's numbers at their places
+  same-dot : dotAt (run r .points) (run r .view1) (run r .view2) (run r .deviations) i ≡ dotOf r i
+  unfolding run
+  same-dot =
+      let a : cell (3 * n) 0 3 (3 * i) at = entry (3 * n) (column r 0 3) (3 * i) (omega arith) ∙ place r 0 3 (3 * i) at (omega arith) in
+      let b : cell (3 * n) 0 3 (3 * i + 1) (at + 8) = entry (3 * n) (column r 0 3) (3 * i + 1) (omega arith) ∙ place r 0 3 (3 * i + 1) (at + 8) (omega arith) in
+      let c : cell (3 * n) 0 3 (3 * i + 2) (at + 16) = entry (3 * n) (column r 0 3) (3 * i + 2) (omega arith) ∙ place r 0 3 (3 * i + 2) (at + 16) (omega arith) in
+      let d : cell (2 * n) 24 2 (2 * i) (at + 24) = entry (2 * n) (column r 24 2) (2 * i) (omega arith) ∙ place r 24 2 (2 * i) (at + 24) (omega arith) in
+      let e : cell (2 * n) 24 2 (2 * i + 1) (at + 24 + 8) = entry (2 * n) (column r 24 2) (2 * i + 1) (omega arith) ∙ place r 24 2 (2 * i + 1) (at + 24 + 8) (omega arith) in
+      let f : cell (2 * n) 40 2 (2 * i) (at + 40) = entry (2 * n) (column r 40 2) (2 * i) (omega arith) ∙ place r 40 2 (2 * i) (at + 40) (omega arith) in
+      let g : cell (2 * n) 40 2 (2 * i + 1) (at + 40 + 8) = entry (2 * n) (column r 40 2) (2 * i + 1) (omega arith) ∙ place r 40 2 (2 * i + 1) (at + 40 + 8) (omega arith) in
+      let k : cell n 56 1 i (at + 56) = entry n (column r 56 1) i h ∙ place r 56 1 i (at + 56) (omega arith) in
+      rw (a, b, c, d, e, f, g, k) refl
+
+  same-block : blockOf (rig r) (dotOf r i) ≡ blockAt (run r) i
+  unfolding run
+  same-block = ap (λ (x : Dot). blockOf (rig r) x) (sym same-dot)
+
+  pub next-line : (start : ℕ) (out : List ℕ) (middle : ℕ) (between : List ℕ) (next : ℕ) (after : List ℕ) → Put (pointLines (run r) i) start out middle between
+      → (x : Rig) → x ≡ rig r → (b : LocalLinearization) → b ≡ blockOf x (dotOf r i) → (d : Float) → d ≡ damping r → (l : ℕ) → l ≡ letter b d
+      → Put (pointLine i l) middle between next after → Put (pointLines (run r) (i + 1)) start out next after
+  unfolding pointLines run
+  next-line start out middle between next after p x e b f d g l k q =
+      rw (add-one i)
+      (put-put (pointLines (run r) i) (pointLine i (letter (blockAt (run r) i) (run r .damping))) start out middle between next after p
+      (put-same (pointLine i l) (pointLine i (letter (blockAt (run r) i) (run r .damping))) middle between next after
+      (ap (λ (c : ℕ). pointLine i c)
+      (k ∙ ap (λ (y : Float). letter b y) g ∙ ap (λ (y : LocalLinearization). letter y (damping r)) (f ∙ ap (λ (y : Rig). blockOf y (dotOf r i)) e ∙ same-block)))
+      q))
+
+pub no-lines : (p : Problem) (at : ℕ) (out : List ℕ) → Put (pointLines p 0) at out at out
+unfolding pointLines
+no-lines p at out = put-none at out
+
+-- where an entry of a column stands: the point, and the number of the point
+pub quotient : (j each n : ℕ) → 0 < each → j < each * n → (j / each < n) × (j % each < each)
+quotient j each n h k = (by (ltb (j / each) n) refl, mod-lt j h)
+  where
+    by : (b : Bool) → ltb (j / each) n ≡ b → j / each < n
+    by true e = ltb-true (j / each) n e
+    by false e =
+        let l = mul-le-mul-right each (ltb-false (j / each) n e) in
+        let m = div-add-mod' j each in
+        let c = mul-comm each n in
+        absurd (omega arith)
+
+-- the four columns, the rig and the damping are the run
+pub run-is : (r : List ℕ) (p v w d : List Float) (x : Rig) (y : Float) (lp lv lw ld : ℕ) → p ≡ tabulate lp (column r 0 3) → lp ≡ 3 * pointFields r → v ≡ tabulate lv (column r 24 2)
+    → lv ≡ 2 * pointFields r → w ≡ tabulate lw (column r 40 2) → lw ≡ 2 * pointFields r → d ≡ tabulate ld (column r 56 1) → ld ≡ pointFields r → x ≡ rig r → y ≡ damping r
+    → problem p v w d x y ≡ run r
+unfolding run
+run-is r p v w d x y lp lv lw ld e₁ e₂ e₃ e₄ e₅ e₆ e₇ e₈ e₉ e = rw (e₁, e₂, e₃, e₄, e₅, e₆, e₇, e₈, e₉, e) refl
+
+pub tabulate-length : (n : ℕ) (f : ℕ → Float) → length (tabulate n f) ≡ n
+tabulate-length zero f = refl
+tabulate-length (suc n) f = ap suc (tabulate-length n (λ i. f (suc i)))
+
+-- a record of the right form has 512 points at most
+pub few-points : (r : List ℕ) → Formed r → pointFields r ≤ 512
+few-points r f = let e = f .0 in let h = f .1 in omega arith

@@ -1,0 +1,19 @@
+-- `record::run::three_at` meets its contract. Assumes nothing.
+use native.Mathlib.Omega.{arith}
+use borrow.Author.Needs.{needs}
+use Rattle.record.proofs.run.three_at.Statement.{statement}
+use Rattle.record.proofs.run.three_at.Tie as tie
+
+returns : tie.Need-returns
+returns c = cc
+
+pub three-at-spec : {M : Type 1} → statement M
+three-at-spec =
+    tie.close
+    (tie.spec
+    (λ c κs. search needs)
+    (λ c. omega arith)
+    (λ c κs. search needs)
+    (λ c. omega arith)
+    (λ c κs. search needs)
+    returns)

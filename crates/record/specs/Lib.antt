@@ -1,0 +1,5 @@
+-- Document 01, "Run record and its list".
+pub mod Form
+pub mod Run
+pub mod Text
+pub mod Lists

@@ -1,0 +1,112 @@
+// The form of a run record: a reader on the record's bytes and a place in them.
+ghost use mathlib.Core.Path.{_≡_};
+ghost use Prim.Native.Nat.{_≤_, _<_};
+ghost use lib.ListN.{length};
+ghost use Rattle.refusal.specs.First as First;
+ghost use Rattle.record.specs.Form as Form;
+use refusal::Refusal;
+
+// The most bytes of a record: 512 points
+pub const MAX_RECORD: usize = 34559;
+
+// Where the fields begin
+pub const CAMERA1: usize = 0;
+
+pub const CAMERA2: usize = 43;
+
+pub const POSE: usize = 86;
+
+pub const BASIS: usize = 185;
+
+pub const DAMPING: usize = 244;
+
+pub const POINTS: usize = 255;
+
+// The bytes of a point's field
+pub const POINT_SIZE: usize = 67;
+
+// Rows 14 and 15
+pub(crate) fn refused(record: &[u8]) -> Refusal
+    ensures { λ r. ⌜ r ≡ Form.refused (now («record» .entry)) ⌝ }
+{
+    if !(record.len() <= MAX_RECORD) {
+        return Refusal::of(refusal::RECORD_TOO_LONG);
+    }
+    let camera1 = field_refused(record, 1, 40, CAMERA1);
+    if !camera1.is_none() {
+        return camera1;
+    }
+    let camera2 = field_refused(record, 2, 40, CAMERA2);
+    if !camera2.is_none() {
+        return camera2;
+    }
+    let pose = field_refused(record, 3, 96, POSE);
+    if !pose.is_none() {
+        return pose;
+    }
+    let basis = field_refused(record, 4, 56, BASIS);
+    if !basis.is_none() {
+        return basis;
+    }
+    let damping = field_refused(record, 5, 8, DAMPING);
+    if !damping.is_none() {
+        return damping;
+    }
+    points_refused(record)
+}
+
+// Row 15 for each point's field
+fn points_refused(record: &[u8]) -> Refusal
+    requires { ⌜ length (now «record») ≤ 34559 ⌝ }
+    ensures { λ r. ⌜ r ≡ First.first (λ i. Form.fieldAt (now («record» .entry)) 6 64 (Form.pointAt i)) 0 (Form.pointFields (now («record» .entry))) ⌝ }
+{
+    for i in 0..point_fields(record) {
+        let refusal = field_refused(record, 6, 64, POINTS + POINT_SIZE * i);
+        if !refusal.is_none() {
+            return refusal;
+        }
+    }
+    Refusal::none()
+}
+
+// How many point fields begin before the end
+pub(crate) fn point_fields(record: &[u8]) -> usize
+    requires { ⌜ length (now «record») ≤ 34559 ⌝ }
+    ensures { λ r. ⌜ r ≡ Form.pointFields (now («record» .entry)) ⌝ }
+{
+    if record.len() < POINTS {
+        return 0;
+    }
+    (record.len() - POINTS + (POINT_SIZE - 1)) / POINT_SIZE
+}
+
+// Row 15 for one field
+fn field_refused(record: &[u8], tag: u8, size: usize, start: usize) -> Refusal
+    requires { ⌜ (start ≤ 40000) × (size ≤ 100) ⌝ }
+    ensures { λ r. ⌜ r ≡ Form.fieldAt (now («record» .entry)) tag size start ⌝ }
+{
+    if !is_whole(record, tag, size, start) {
+        return Refusal::at(refusal::RECORD_FORM, 0, start as u32);
+    }
+    Refusal::none()
+}
+
+// Whether the field that begins there has this tag and this size, and ends within the record
+pub(crate) fn is_whole(record: &[u8], tag: u8, size: usize, start: usize) -> bool
+    requires { ⌜ (start ≤ 40000) × (size ≤ 100) ⌝ }
+    ensures { λ r. ⌜ r ≡ Form.isWhole (now («record» .entry)) start tag size ⌝ }
+{
+    if !(start + 3 + size <= record.len()) {
+        return false;
+    }
+    let low = byte_at(record, start + 1);
+    let high = byte_at(record, start + 2);
+    (byte_at(record, start) == tag as u64) & (low + 256 * high == size as u64)
+}
+
+pub(crate) fn byte_at(record: &[u8], at: usize) -> u64
+    requires { ⌜ at < length (now «record») ⌝ }
+    ensures { λ r. ⌜ (r ≡ Form.byte (now («record» .entry)) at) × (r < 256) ⌝ }
+{
+    record[at] as u64
+}

@@ -1,0 +1,10 @@
+// The run record and its list: document 01, "Run record and its list".
+mod fields;
+mod lines;
+mod list;
+mod run;
+mod text;
+
+pub use list::MAX_LIST;
+pub use list::Written;
+pub use list::write_list;

@@ -1,0 +1,126 @@
+// What a record of the right form holds: numbers of eight bytes, low byte first.
+ghost use mathlib.Core.Path.{_≡_};
+ghost use Prim.Native.Nat.{_≤_, _<_, _*_, _+_, _/_, _%_};
+ghost use lib.ListN.{length};
+ghost use Rattle.number.specs.Vectors as Vectors;
+ghost use Rattle.optimizer.specs.Problem as Problem;
+ghost use Rattle.record.specs.Form as Form;
+ghost use Rattle.record.specs.Run as Run;
+use crate::fields;
+use optimizer::Rig;
+use projection::PinholeCamera;
+use schur::Dot;
+use schur::LocalLinearization;
+use schur::Pose;
+
+// Four bytes, low byte first
+fn half_at(record: &[u8], at: usize) -> u64
+    requires { ⌜ at + 4 ≤ length (now «record») ⌝ }
+    ensures { λ r. ⌜ (r ≡ Run.half (now («record» .entry)) at) × (r < 4294967296) ⌝ }
+{
+    let a = fields::byte_at(record, at);
+    let b = fields::byte_at(record, at + 1);
+    let c = fields::byte_at(record, at + 2);
+    let d = fields::byte_at(record, at + 3);
+    a + 256 * b + 65536 * c + 16777216 * d
+}
+
+pub(crate) fn number_at(record: &[u8], at: usize) -> f64
+    requires { ⌜ at + 8 ≤ length (now «record») ⌝ }
+    ensures { λ r. ⌜ r ≡ Run.numberAt (now («record» .entry)) at ⌝ }
+{
+    let low = half_at(record, at);
+    let high = half_at(record, at + 4);
+    number::from_bits(low + 4294967296 * high)
+}
+
+// Numbers of all points: `each` a point, which begin at `first` of the payload
+pub(crate) fn read_column(record: &[u8], first: usize, each: usize, out: &mut [f64])
+    requires { ⌜ (0 < each) × (each ≤ 3) × (first + 8 * each ≤ 64) × (length (now out) ≤ each * Form.pointFields (now «record»))
+        × Form.Formed (now «record») ⌝ }
+    ensures { λ _. ⌜ now (out .exit) ≡ Vectors.tabulate (length (now (out .entry))) (Run.column (now («record» .entry)) first each) ⌝ }
+{
+    for j in 0..out.len() {
+        out[j] = number_at(
+            record,
+            fields::POINTS + 3 + first + fields::POINT_SIZE * (j / each) + 8 * (j % each),
+        );
+    }
+}
+
+fn camera_at(record: &[u8], at: usize) -> PinholeCamera
+    requires { ⌜ at + 43 ≤ length (now «record») ⌝ }
+    ensures { λ r. ⌜ r ≡ Run.cameraAt (now («record» .entry)) at ⌝ }
+{
+    PinholeCamera {
+        fx: number_at(record, at + 3),
+        fy: number_at(record, at + 11),
+        cx: number_at(record, at + 19),
+        cy: number_at(record, at + 27),
+        skew: number_at(record, at + 35),
+    }
+}
+
+fn three_at(record: &[u8], at: usize) -> [f64; 3]
+    requires { ⌜ at + 24 ≤ length (now «record») ⌝ }
+    ensures { λ r. ⌜ r ≡ Run.threeAt (now («record» .entry)) at ⌝ }
+{
+    [
+        number_at(record, at),
+        number_at(record, at + 8),
+        number_at(record, at + 16),
+    ]
+}
+
+fn two_at(record: &[u8], at: usize) -> [f64; 2]
+    requires { ⌜ at + 16 ≤ length (now «record») ⌝ }
+    ensures { λ r. ⌜ r ≡ Run.twoAt (now («record» .entry)) at ⌝ }
+{
+    [number_at(record, at), number_at(record, at + 8)]
+}
+
+pub(crate) fn rig_of(record: &[u8]) -> Rig
+    requires { ⌜ 255 ≤ length (now «record») ⌝ }
+    ensures { λ r. ⌜ r ≡ Run.rig (now («record» .entry)) ⌝ }
+{
+    let a = three_at(record, fields::POSE + 3);
+    let b = three_at(record, fields::POSE + 27);
+    let c = three_at(record, fields::POSE + 51);
+    let u = three_at(record, fields::BASIS + 3);
+    let v = three_at(record, fields::BASIS + 27);
+    let pose = Pose {
+        rotation: [a[0], a[1], a[2], b[0], b[1], b[2], c[0], c[1], c[2]],
+        translation: three_at(record, fields::POSE + 75),
+        basis: [u[0], u[1], u[2], v[0], v[1], v[2]],
+        baseline: number_at(record, fields::BASIS + 51),
+    };
+    Rig {
+        camera1: camera_at(record, fields::CAMERA1),
+        camera2: camera_at(record, fields::CAMERA2),
+        pose,
+    }
+}
+
+fn dot_at(record: &[u8], i: usize) -> Dot
+    requires { ⌜ (i < Form.pointFields (now «record»)) × Form.Formed (now «record») ⌝ }
+    ensures { λ r. ⌜ r ≡ Run.dotOf (now («record» .entry)) i ⌝ }
+{
+    let at = fields::POINTS + 3 + fields::POINT_SIZE * i;
+    Dot {
+        point: three_at(record, at),
+        view1: two_at(record, at + 24),
+        view2: two_at(record, at + 40),
+        inverse_deviation: number_at(record, at + 56),
+    }
+}
+
+// The block of a point
+pub(crate) fn block_at(record: &[u8], rig: Rig, i: usize) -> LocalLinearization
+    requires { ⌜ (i < Form.pointFields (now «record»)) × Form.Formed (now «record») ⌝ }
+    ensures { λ r. ⌜ r ≡ Problem.blockOf rig (Run.dotOf (now («record» .entry)) i) ⌝ }
+{
+    let camera1 = rig.camera1;
+    let camera2 = rig.camera2;
+    let pose = rig.pose;
+    schur::linearize_point(camera1, camera2, pose, dot_at(record, i))
+}
