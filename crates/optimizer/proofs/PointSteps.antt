@@ -8,7 +8,7 @@ use native.Mathlib.Omega.{arith}
 use borrow.Author.Tests.{lt-ltb}
 use lib.Dec.{T}
 use lib.ListN.{length}
-use lib.Ieee.{Float}
+use lib.Ieee.{Float, nan, inf, fin, le, isNan}
 use lib.Ieee.Bits.{is-true}
 use Rattle.number.specs.Vectors.{allFinite}
 use Rattle.refusal.specs.Refused.{none}
@@ -141,3 +141,26 @@ module _ (p : Problem) (good : T (goodDamping (p .damping))) (h : count p ≤ 65
       let w = weak-of-calls (reducedSystem p .«weak_point_count») same-weak in
       let l = ap length (all-taken p 0 0 (count p) (omega arith)) ∙ length-blocks p 0 (count p) in
       omega arith
+
+-- ---- cost and squared residual are numbers, since the order of IEEE 754 holds of them
+
+number : (x y : Float) → T (le x y) → isNan x ≡ false
+unfolding le isNan
+number nan y h = absurd h
+number (inf s) y h = refl
+number (fin s m e) y h = refl
+
+same-costs : (s : ReducedSystem) (d : Float) → T (goodDamping d)
+    → (finishDamping s d .system .cost ≡ s .cost) × (finishDamping s d .system .«squared_residual» ≡ s .«squared_residual»)
+unfolding finishDamping withHessian
+same-costs s d g = rw (is-true (goodDamping d) g) (refl, refl)
+
+pub costs-are-numbers : (p : Problem) → T (goodDamping (p .damping)) → (isNan (reducedSystem p .cost) ≡ false) × (isNan (reducedSystem p .«squared_residual») ≡ false)
+unfolding reducedSystem systemTo
+costs-are-numbers p good =
+    let f = claim (p .damping) good (calls p 0 (count p)) .further [] in
+    let e = after-calls p 0 (count p) ∙ ap (λ (k : ℕ). systemTo p k) (zero-add (count p)) in
+    let s = same-costs (systemTo p (count p)) (p .damping) good in (
+      ap isNan (s .0) ∙ ap (λ (t : ReducedSystem). isNan (t .cost)) (sym e) ∙ number _ _ (f .cost),
+      ap isNan (s .1) ∙ ap (λ (t : ReducedSystem). isNan (t .«squared_residual»)) (sym e) ∙ number _ _ (f .squared),
+    )

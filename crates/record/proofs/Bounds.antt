@@ -19,12 +19,12 @@ use Rattle.optimizer.specs.Problem.{Problem, count, blockAt}
 use Rattle.optimizer.specs.Checks as Checks
 use Rattle.optimizer.specs.Step.{reducedSystem}
 use Rattle.optimizer.proofs.Whole.{checked}
-use Rattle.optimizer.proofs.PointSteps.{weak-at-most}
+use Rattle.optimizer.proofs.PointSteps.{weak-at-most, costs-are-numbers}
 use Rattle.hex.specs.Hex.{digits}
 use Rattle.record.specs.Form as Form
 use Rattle.record.specs.Run.{column, run, damping}
 use Rattle.record.specs.Text.{space, lineFeed, digit, withoutZeros, decimal, pasted, Put}
-use Rattle.record.specs.Lists.{bitsThen, runLine, letter, pointLine, pointLines, validity, verdict, sumLine, refusedLine, linesOf, refused, list, maxList, Wrote}
+use Rattle.record.specs.Lists.{bitsThen, runLine, letter, pointLine, pointLines, validity, verdict, sumLine, refusedLine, linesOf, refused, list, maxList, NeverNan, Wrote}
 use Rattle.record.proofs.Forms.{formed}
 use Rattle.record.proofs.Puts.{pasted-length}
 use Rattle.record.proofs.Runs.{few-points, tabulate-length}
@@ -176,6 +176,11 @@ list-fits r = by (isNone (refused r)) refl
     by true e = lines-length r e
     by false e = let h = refused-length (refused r) in omega arith
 
+-- the sum line's cost and squared residual are never NaN
+pub sums-are-numbers : (r : List ℕ) → isNone (refused r) ≡ true → NeverNan r
+unfolding refused
+sums-are-numbers r e = let n = costs-are-numbers (run r) (checked (run r) (after-none (Form.refused r) (Checks.refused (run r)) e .1) .1) in record { cost = n .0; squared = n .1 }
+
 -- ---- written
 
 module _ (r room : List ℕ) (l : ℕ) (after : List ℕ) (h : length room ≡ maxList) (p : Put (list r) 0 room l after) where
@@ -191,10 +196,14 @@ module _ (r room : List ℕ) (l : ℕ) (after : List ℕ) (h : length room ≡ m
   pub made-length : l ≤ length after
   made-length = let k = list-fits r in let a = put-list .0 in let b = ap length (put-list .1) ∙ pasted-length room 0 (list r) (omega arith) in omega arith
 
+  short : l ≤ maxList
+  short = let k = list-fits r in let a = put-list .0 in omega arith
+
   module _ (out : List ℕ) where
     pub not-written : not (leb l (length out)) ≡ true → Wrote r out (record { length = l; fits = false }) out
     not-written t = record {
       same-length = put-list .0;
+      bound = short;
       fits = sym (ap (λ (n : ℕ). leb n (length out)) (sym (put-list .0)) ∙ not-true (leb l (length out)) t);
       same-out = refl;
     }
@@ -205,6 +214,7 @@ module _ (r room : List ℕ) (l : ℕ) (after : List ℕ) (h : length room ≡ m
         let a = put-list .0 in
         let b = ap length made in record {
           same-length = put-list .0;
+          bound = short;
           fits = sym (ap (λ (n : ℕ). leb n (length out)) (sym (put-list .0)) ∙ not-false (leb l (length out)) t);
           same-out = q (omega arith) .1 ∙ ap (λ (x : List ℕ). pasted out 0 x) made;
         }

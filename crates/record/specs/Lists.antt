@@ -1,11 +1,11 @@
 -- The list of a run record: rows 14 and 15, then 3 to 9, then the lines. Single spaces, and a line feed ends each line.
-use Prim.Native.Nat.{ℕ, zero, suc}
+use Prim.Native.Nat.{ℕ, zero, suc, _≤_}
 use mathlib.Core.Path.{_≡_}
-use mathlib.Core.Bool.{Bool, _&&_, cond}
+use mathlib.Core.Bool.{Bool, false, _&&_, cond}
 use mathlib.Core.List.{List, [], _∷_, _++_}
 use lib.Dec.{eqb, leb}
 use lib.ListN.{length}
-use lib.Ieee.{Float, binary64, toBits, eq, le}
+use lib.Ieee.{Float, binary64, toBits, isNan, eq, le}
 use Rattle.number.specs.Binary64.{zero as zero·, epsilon192}
 use Rattle.refusal.specs.Refused.{isNone}
 use Rattle.refusal.specs.First.{orElse}
@@ -75,12 +75,18 @@ refused r = orElse (Form.refused r) (Checks.refused (run r))
 unfoldable pub list : List ℕ → List ℕ
 list r = cond (isNone (refused r)) (linesOf r (reducedSystem (run r))) (refusedLine (refused r))
 
--- the most bytes that a list has
+-- no list has more bytes, so a buffer of that length always suffices
 abbrev pub maxList : ℕ
 maxList = 4057
+
+-- of a run that is not refused: what the sum line prints is never NaN
+pub record NeverNan (r : List ℕ) : Type 0 where
+  pub cost : isNan (reducedSystem (run r) .cost) ≡ false
+  pub squared : isNan (reducedSystem (run r) .«squared_residual») ≡ false
 
 -- what `write_list` leaves: the list's length, whether it fits, and the list in out, which is else as it was
 pub record Wrote (r out : List ℕ) (w : Written) (after : List ℕ) : Type 0 where
   pub same-length : w .length ≡ length (list r)
+  pub bound : w .length ≤ maxList
   pub fits : w .fits ≡ leb (length (list r)) (length out)
   pub same-out : after ≡ cond (w .fits) (pasted out 0 (list r)) out

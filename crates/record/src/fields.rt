@@ -57,7 +57,7 @@ pub(crate) fn refused(record: &[u8]) -> Refusal
 
 // Row 15 for each point's field
 fn points_refused(record: &[u8]) -> Refusal
-    requires { ⌜ length (now «record») ≤ 34559 ⌝ }
+    requires { ⌜ length (now «record») ≤ Form.maxRecord ⌝ }
     ensures { λ r. ⌜ r ≡ First.first (λ i. Form.fieldAt (now («record» .entry)) 6 64 (Form.pointAt i)) 0 (Form.pointFields (now («record» .entry))) ⌝ }
 {
     for i in 0..point_fields(record) {
@@ -71,7 +71,7 @@ fn points_refused(record: &[u8]) -> Refusal
 
 // How many point fields begin before the end
 pub(crate) fn point_fields(record: &[u8]) -> usize
-    requires { ⌜ length (now «record») ≤ 34559 ⌝ }
+    requires { ⌜ length (now «record») ≤ Form.maxRecord ⌝ }
     ensures { λ r. ⌜ r ≡ Form.pointFields (now («record» .entry)) ⌝ }
 {
     if record.len() < POINTS {

@@ -5,6 +5,7 @@ mod list;
 mod run;
 mod text;
 
+pub use fields::MAX_RECORD;
 pub use list::MAX_LIST;
 pub use list::Written;
 pub use list::write_list;

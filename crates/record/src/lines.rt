@@ -36,7 +36,7 @@ pub(crate) fn put_point(out: &mut [u8], at: usize, i: u32, letter: u8) -> usize
     text::put(out, space, &[b' ', letter, b'\n'])
 }
 
-// How a point's block stands at a damping
+// `n` where the block does not factor; at damping zero `w` for an rcond of at most 192ε, else `g`; at other dampings `f`
 pub(crate) fn letter(local: LocalLinearization, damping: f64) -> u8
     ensures { λ r. ⌜ r ≡ Lists.letter local damping ⌝ }
 {

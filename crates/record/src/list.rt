@@ -13,11 +13,11 @@ use crate::run;
 use crate::text;
 use schur::ReducedSystem;
 
-// The most bytes that a list has
+// No list has more bytes.
 pub const MAX_LIST: usize = 4057;
 
 // The most points of a record
-const POINTS: usize = 512;
+const MAX_POINTS: usize = 512;
 
 // The list's length, and whether it fits into the lent buffer
 pub struct Written {
@@ -41,6 +41,7 @@ pub fn write_list(record: &[u8], out: &mut [u8]) -> Written
     Written { length, fits: true }
 }
 
+// The list of any record
 fn put_list(out: &mut [u8], record: &[u8]) -> usize
     ensures { λ r. ⌜ Text.Put (Lists.list (now («record» .entry))) 0 (now (out .entry)) r (now (out .exit)) ⌝ }
 {
@@ -63,10 +64,10 @@ fn reduced_system(record: &[u8]) -> optimizer::Reduced
     ensures { λ r. ⌜ r ≡ Steps.reduced (Run.run (now («record» .entry))) ⌝ }
 {
     let n = fields::point_fields(record);
-    let mut points = [0.0; 3 * POINTS];
-    let mut view1 = [0.0; 2 * POINTS];
-    let mut view2 = [0.0; 2 * POINTS];
-    let mut deviations = [0.0; POINTS];
+    let mut points = [0.0; 3 * MAX_POINTS];
+    let mut view1 = [0.0; 2 * MAX_POINTS];
+    let mut view2 = [0.0; 2 * MAX_POINTS];
+    let mut deviations = [0.0; MAX_POINTS];
     reduced_in(
         record,
         &mut points[..3 * n],

@@ -80,7 +80,7 @@ fn two_at(record: &[u8], at: usize) -> [f64; 2]
 }
 
 pub(crate) fn rig_of(record: &[u8]) -> Rig
-    requires { ⌜ 255 ≤ length (now «record») ⌝ }
+    requires { ⌜ Form.pointsAt ≤ length (now «record») ⌝ }
     ensures { λ r. ⌜ r ≡ Run.rig (now («record» .entry)) ⌝ }
 {
     let a = three_at(record, fields::POSE + 3);
