@@ -167,6 +167,12 @@ uint64_t pixel_step_step(const double *points, size_t points_length,
 /* A step of the pose, limited to 0.5 in rotation and in translation. x (5); out (5) */
 uint64_t pixel_step_limit_pose_step(const double *x, size_t x_length, double *out, size_t out_length);
 
+/*
+ * The list of a run record, or the one line of a record that is refused. Answers the list's length; the list is
+ * written into the front of out if it fits there, and else out is left as it is. 4,057 bytes always suffice.
+ */
+uint64_t pixel_step_write_list(const uint8_t *record, size_t record_length, uint8_t *out, size_t out_length);
+
 #ifdef __cplusplus
 }
 #endif

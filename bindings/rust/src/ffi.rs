@@ -189,4 +189,11 @@ unsafe extern "C" {
         out: *mut f64,
         out_len: usize,
     ) -> u64;
+
+    pub fn pixel_step_write_list(
+        record: *const u8,
+        record_len: usize,
+        out: *mut u8,
+        out_len: usize,
+    ) -> u64;
 }

@@ -123,6 +123,16 @@ pub fn solve_positive_definite(a: &[f64; 25], b: &[f64; 5]) -> Result<[f64; 5], 
     filled(|out| slices::solve_positive_definite(a, b, out))
 }
 
+/// Bytes that every list of a run record fits into.
+pub const MAX_LIST: usize = 4057;
+
+/// The list of a run record, in the front of `out`: its length, or, where it does
+/// not fit and `out` is left alone, the length that it would have.
+pub fn write_list(record: &[u8], out: &mut [u8]) -> Result<usize, usize> {
+    let length = slices::write_list(record, out) as usize;
+    if length <= out.len() { Ok(length) } else { Err(length) }
+}
+
 /// The `N` numbers that a call writes where it answers 0.
 fn filled<const N: usize>(call: impl FnOnce(&mut [f64]) -> u64) -> Result<[f64; N], Refusal> {
     let mut out = [0.0; N];

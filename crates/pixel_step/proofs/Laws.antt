@@ -1,6 +1,6 @@
 -- A lent slice of a known length as a small array, and an answer stored in one. Assumes nothing.
 use mathlib.Core.Path.{_≡_, refl, sym, ap, _∙_}
-use mathlib.Core.Bool.{Bool, true, false, not, _&&_, true≢false}
+use mathlib.Core.Bool.{Bool, true, false, not, _&&_, true≢false, cond}
 use mathlib.Core.List.{List, [], _∷_, _++_, append-nil}
 use Prim.Native.Nat.{ℕ, zero, suc, _+_, _-_, _≤_}
 use native.Mathlib.Numerals.{add-one}
@@ -19,7 +19,10 @@ use Rattle.optimizer.specs.Step as Step
 use Rattle.optimizer.specs.declared.Rig.{Rig}
 use Rattle.optimizer.specs.declared.StepResult.{StepResult}
 use Rattle.pixel_step.specs.Flat.{part, put, rig, system, systemNumbers, systemCounts, stepNumbers, stepCount}
-use Rattle.pixel_step.specs.Interface.{code, lengthsCode, stored, answer, Answered, change, Changed, long, step, Stepped}
+use Rattle.pixel_step.specs.Interface.{code, lengthsCode, stored, answer, Answered, change, Changed, long, step, Stepped, Listed}
+use Rattle.record.specs.Text.{pasted}
+use Rattle.record.specs.Lists.{list, Wrote}
+use Rattle.record.specs.declared.list.Written.{Written}
 
 -- ---- reading
 
@@ -198,3 +201,11 @@ four-fit a b c d m n k j h =
     let l = last-fits (eqb a m && eqb b n && eqb c k) d j h in
     let r = three-fit a b c m n k (l .0) in
     (r .0, r .1, r .2, l .1)
+
+-- ---- a list
+
+pub listed : (r out : List ℕ) (w : Written) (after : List ℕ) → Wrote r out w after → Listed r out (w .length) after
+listed r out w after h = record {
+  same-number = h .same-length;
+  same-out = h .same-out ∙ ap (λ (b : Bool). cond b (pasted out 0 (list r)) out) (h .fits);
+}

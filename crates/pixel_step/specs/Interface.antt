@@ -3,7 +3,7 @@ use Prim.Native.Nat.{ℕ, _+_, _*_}
 use mathlib.Core.Path.{_≡_}
 use mathlib.Core.Bool.{Bool, _&&_, cond}
 use mathlib.Core.List.{List, [], _∷_}
-use lib.Dec.{eqb}
+use lib.Dec.{eqb, leb}
 use lib.ListN.{length}
 use lib.Ieee.{Float}
 use Rattle.number.specs.Vectors.{_!_}
@@ -16,6 +16,8 @@ use Rattle.point_block.specs.Factor as Factor
 use Rattle.point_block.specs.Condition as Condition
 use Rattle.point_block.specs.Lone as Lone
 use Rattle.solver.specs.Solver as Solver
+use Rattle.record.specs.Text.{pasted}
+use Rattle.record.specs.Lists.{list}
 use Rattle.schur.specs.Linearize as Linearize
 use Rattle.schur.specs.System as System
 use Rattle.schur.specs.Model as Model
@@ -174,3 +176,8 @@ step p x room out weak =
 
 unfoldable pub limitPoseStep : List Float → List Float → Answer Float
 limitPoseStep x out = answer (long x 5 && long out 5) none (Step.limitPoseStep x) out
+
+-- the list's length, and the list in out where it fits there
+pub record Listed (r out : List ℕ) (number : ℕ) (after : List ℕ) : Type 0 where
+  pub same-number : number ≡ length (list r)
+  pub same-out : after ≡ cond (leb (length (list r)) (length out)) (pasted out 0 (list r)) out

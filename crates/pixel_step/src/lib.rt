@@ -9,6 +9,7 @@ mod memory;
 pub mod numbers;
 pub mod point_blocks;
 pub mod projections;
+pub mod records;
 pub mod solvers;
 pub mod steps;
 pub mod systems;

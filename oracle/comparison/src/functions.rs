@@ -37,11 +37,8 @@ functions! {
     point_step_with_damping_norm
     step
     limit_pose_step
+    write_list
 }
-
-// Until the port has the call.
-#[cfg(test)]
-mod write_list;
 
 #[cfg(test)]
 mod tests {

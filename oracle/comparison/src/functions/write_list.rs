@@ -1,11 +1,9 @@
-//! `write_list`: the list of a run record, or its refusal. The port has no such
-//! call yet, so the tests alone use this file. To compare one, give its
-//! implementation of `WriteList` and `FUNCTION`, and add the name to the list in
-//! functions.rs.
+//! `write_list`: the list of a run record, the line of a refused one included,
+//! in rooms that it fits and in shorter ones, which have to stay as they were.
 
+use oracle::generate::Source;
 use oracle::record;
 use oracle::records::any_record;
-use pixel_step::Refusal;
 
 use crate::function::{Answer, Argument, Function, Kind, give, open, returned_word};
 use crate::input::{Input, bytes, fill};
@@ -20,67 +18,74 @@ const ARGUMENTS: [Argument; 3] = [
     returned_word(),
 ];
 
-/// The call: writes the list into the front of `out` and gives its length, or
-/// refuses and leaves `out` alone.
+pub const FUNCTION: Function = function::<Port>();
+
+/// The call: writes the list into the front of `out` if it fits there, and gives
+/// its length.
 trait WriteList {
-    fn write_list(record: &[u8], out: &mut [u8]) -> Result<usize, Refusal>;
+    fn write_list(record: &[u8], out: &mut [u8]) -> usize;
+}
+
+struct Port;
+
+impl WriteList for Port {
+    fn write_list(record: &[u8], out: &mut [u8]) -> usize {
+        pixel_step::write_list(record, out).unwrap_or_else(|length| length)
+    }
 }
 
 /// The comparison of one such call.
-const fn function<Port: WriteList>() -> Function {
+const fn function<Call: WriteList>() -> Function {
     Function {
         name: "write_list",
         arguments: &ARGUMENTS,
-        rows: &[3, 4, 5, 6, 7, 8, 9, 14, 15],
+        rows: &[],
         walk: None,
         generate: |source| {
             let record = any_record(source).into_iter().map(u64::from).collect();
-            Input(vec![record, vec![fill(Kind::ByteRoom); ROOM]])
+            let room = room(source);
+            Input(vec![record, vec![fill(Kind::ByteRoom); room]])
         },
-        port: call::<Port>,
+        port: call::<Call>,
         oracle: answer,
         plain: None,
     }
 }
 
-/// The length goes where the driver reads it.
-fn call<Port: WriteList>(lent: &Lent<'_>, rooms: &mut Rooms<'_>) -> u64 {
-    match Port::write_list(lent.bytes(0), rooms.bytes[0]) {
-        Ok(length) => give(rooms, f64::from_bits(length as u64)),
-        Err(Refusal {
-            number,
-            view,
-            index,
-        }) => u64::from(number) | u64::from(view) << 8 | index << 16,
+/// One room in eight may be too short.
+fn room(source: &mut Source) -> usize {
+    match source.below(16) {
+        0 => source.below(ROOM),
+        1 => source.below(200),
+        _ => ROOM,
     }
+}
+
+/// The length goes where the driver reads it.
+fn call<Call: WriteList>(lent: &Lent<'_>, rooms: &mut Rooms<'_>) -> u64 {
+    let length = Call::write_list(lent.bytes(0), rooms.bytes[0]);
+    give(rooms, f64::from_bits(length as u64))
 }
 
 /// The list in the front of the room, which is else as it was, and its length.
 fn answer(input: &Input) -> Answer {
-    match record::lines(&bytes(&input.0[0])) {
-        Ok(list) => {
-            let mut room = input.0[1].clone();
-            let list = list.bytes().map(u64::from);
-            let length = list.len();
-            room.splice(..length, list);
-            Answer::Result(vec![room, vec![length as u64]])
-        }
-        Err(refusal) => Answer::Refused(Refusal {
-            number: refusal.number as u8,
-            view: refusal.view as u8,
-            index: refusal.index as u64,
-        }),
+    let list = record::list(&bytes(&input.0[0]));
+    let mut room = input.0[1].clone();
+    if list.len() <= room.len() {
+        room.splice(..list.len(), list.iter().copied().map(u64::from));
     }
+    Answer::Result(vec![room, vec![list.len() as u64]])
 }
 
 #[cfg(test)]
 mod tests {
-    use oracle::generate::{Fault, Source, faulty};
+    use std::collections::BTreeMap;
+
+    use oracle::generate::{Fault, faulty};
 
     use super::*;
     use crate::check::{Expected, check};
     use crate::shrink::shrink;
-    use crate::tally::Tally;
 
     const CASES: u64 = 1000;
 
@@ -88,14 +93,12 @@ mod tests {
     struct Sound;
 
     impl WriteList for Sound {
-        fn write_list(record: &[u8], out: &mut [u8]) -> Result<usize, Refusal> {
-            let list = record::lines(record).map_err(|refusal| Refusal {
-                number: refusal.number as u8,
-                view: refusal.view as u8,
-                index: refusal.index as u64,
-            })?;
-            out[..list.len()].copy_from_slice(list.as_bytes());
-            Ok(list.len())
+        fn write_list(record: &[u8], out: &mut [u8]) -> usize {
+            let list = record::list(record);
+            if list.len() <= out.len() {
+                out[..list.len()].copy_from_slice(&list);
+            }
+            list.len()
         }
     }
 
@@ -103,22 +106,24 @@ mod tests {
     struct Ended;
 
     impl WriteList for Ended {
-        fn write_list(record: &[u8], out: &mut [u8]) -> Result<usize, Refusal> {
-            let length = Sound::write_list(record, out)?;
-            out[length] = 0;
-            Ok(length)
+        fn write_list(record: &[u8], out: &mut [u8]) -> usize {
+            let length = Sound::write_list(record, out);
+            if length < out.len() {
+                out[length] = 0;
+            }
+            length
         }
     }
 
-    /// The refusal's line in the room.
-    struct Said;
+    /// As much of the list as fits.
+    struct Cut;
 
-    impl WriteList for Said {
-        fn write_list(record: &[u8], out: &mut [u8]) -> Result<usize, Refusal> {
-            Sound::write_list(record, out).inspect_err(|refusal| {
-                let line = refusal.to_string();
-                out[..line.len()].copy_from_slice(line.as_bytes());
-            })
+    impl WriteList for Cut {
+        fn write_list(record: &[u8], out: &mut [u8]) -> usize {
+            let list = record::list(record);
+            let part = list.len().min(out.len());
+            out[..part].copy_from_slice(&list[..part]);
+            list.len()
         }
     }
 
@@ -126,8 +131,8 @@ mod tests {
     struct Short;
 
     impl WriteList for Short {
-        fn write_list(record: &[u8], out: &mut [u8]) -> Result<usize, Refusal> {
-            Sound::write_list(record, out).map(|length| length - 1)
+        fn write_list(record: &[u8], out: &mut [u8]) -> usize {
+            Sound::write_list(record, out) - 1
         }
     }
 
@@ -135,26 +140,11 @@ mod tests {
     struct Mild;
 
     impl WriteList for Mild {
-        fn write_list(record: &[u8], out: &mut [u8]) -> Result<usize, Refusal> {
-            let length = Sound::write_list(record, out)?;
-            let weak = out[..length].iter_mut().filter(|byte| **byte == b'w');
+        fn write_list(record: &[u8], out: &mut [u8]) -> usize {
+            let length = Sound::write_list(record, out);
+            let weak = out.iter_mut().take(length).filter(|byte| **byte == b'w');
             weak.for_each(|byte| *byte = b'g');
-            Ok(length)
-        }
-    }
-
-    /// The byte where the record ends, for the one where a field begins.
-    struct Ends;
-
-    impl WriteList for Ends {
-        fn write_list(record: &[u8], out: &mut [u8]) -> Result<usize, Refusal> {
-            Sound::write_list(record, out).map_err(|refusal| match refusal.number {
-                15 => Refusal {
-                    index: record.len() as u64,
-                    ..refusal
-                },
-                _ => refusal,
-            })
+            length
         }
     }
 
@@ -178,24 +168,26 @@ mod tests {
     fn each_fault_is_found() {
         let faulty = [
             function::<Ended>(),
-            function::<Said>(),
+            function::<Cut>(),
             function::<Short>(),
-            function::<Ends>(),
             function::<Mild>(),
         ];
         let counts = faulty.map(|function| differences(&function).0);
         assert!(counts.iter().all(|&count| count >= 10), "{counts:?}");
     }
 
+    /// Lists, and each refusal that a record can meet.
     #[test]
     fn every_answer_comes_up() {
-        let function = function::<Sound>();
-        let mut tally = Tally::default();
+        let mut seen = BTreeMap::new();
         for case in 0..CASES {
-            tally.count(&(function.oracle)(&function.input(3, case)));
+            let record = bytes(&FUNCTION.input(3, case).0[0]);
+            let row = record::lines(&record).err().map(|refusal| refusal.number);
+            *seen.entry(row).or_insert(0) += 1;
         }
-        assert!(tally.never_seen(&function).is_empty(), "{tally}");
-        assert_eq!(tally.refused.len(), function.rows.len(), "{tally}");
+        let rows: Vec<_> = seen.keys().flatten().copied().collect();
+        assert_eq!(rows, [3, 4, 5, 6, 7, 8, 9, 14, 15], "{seen:?}");
+        assert!(seen[&None] >= 50, "{seen:?}");
     }
 
     /// 512 dots, all weak.
@@ -216,6 +208,6 @@ mod tests {
         let answer = (function.oracle)(&input);
         let difference = check(&function, &input, &answer).expect("differs");
         let (input, _) = shrink(&function, Expected::Oracle, input, difference);
-        assert_eq!(input.0[0].len(), 255 + 5 * 67);
+        assert!(input.0[0].len() <= 255 + 5 * 67);
     }
 }
