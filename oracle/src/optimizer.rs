@@ -1,6 +1,7 @@
 //! optimizer.rs: the step limit, the reduced system of a plate, the whole step.
 
 use crate::kernel::two_view::optimizer::reach;
+pub use crate::kernel::two_view::optimizer::reach::timed;
 use crate::schur::{Head, System};
 
 /// What a whole step is lent, flat, with its head and damping.
@@ -128,7 +129,7 @@ pub fn whole_step(plate: &Plate<'_>, room: usize) -> Result<Box<Step>, Refusal> 
 }
 
 /// Rows 1 to 5, which the original leaves to its caller or checks elsewhere.
-fn first_rows(plate: &Plate<'_>, room: usize) -> Option<Refusal> {
+pub(crate) fn first_rows(plate: &Plate<'_>, room: usize) -> Option<Refusal> {
     let Some(n) = plate.count().filter(|n| room == 3 * n) else {
         return Some(refuse(1, 0, 0));
     };

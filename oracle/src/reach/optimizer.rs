@@ -11,6 +11,8 @@ use crate::projection::{Camera, pinhole};
 use crate::recorder;
 use crate::schur::{Block, Dot, System};
 
+pub mod timed;
+
 /// A camera that the original's own check lets through.
 const ANY_CAMERA: Camera = [1.0, 1.0, 0.0, 0.0, 0.0];
 

@@ -26,3 +26,8 @@ pub(crate) fn solve(inverse: &[f64; 6], right_hand_side: &[f64; 3]) -> [f64; 3] 
 pub(crate) fn reciprocal_condition_number(inverse: &[f64; 6], matrix: &[f64; 9]) -> f64 {
     PointBlockFactor { inverse: *inverse }.reciprocal_condition_number(&rows(matrix))
 }
+
+/// The six stored numbers.
+pub(in crate::kernel) fn inverse(factor: &PointBlockFactor) -> [f64; 6] {
+    factor.inverse
+}

@@ -122,7 +122,7 @@ pub(crate) fn predicted_reduction(
 }
 
 /// A copy of the original's block, field by field.
-fn block(local: &LocalLinearization) -> Block {
+pub(in crate::kernel::two_view) fn block(local: &LocalLinearization) -> Block {
     Block {
         pose_hessian: flat(&local.pose_hessian),
         cross_hessian: flat(&local.cross_hessian),
