@@ -3,9 +3,7 @@
 use std::hint::black_box;
 use std::time::Instant;
 
-unsafe extern "C" {
-    safe fn pixel_step_sqrt(x: f64) -> f64;
-}
+use pixel_step::sqrt;
 
 const COUNT: usize = 4096;
 const ROUNDS: usize = 400;
@@ -27,7 +25,9 @@ fn next(state: &mut u64) -> u64 {
 /// Patterns from `low` up to `high`
 fn inputs(low: u64, high: u64) -> Vec<f64> {
     let mut state = 0x9E37_79B9_7F4A_7C15;
-    (0..COUNT).map(|_| f64::from_bits(low + next(&mut state) % (high - low))).collect()
+    (0..COUNT)
+        .map(|_| f64::from_bits(low + next(&mut state) % (high - low)))
+        .collect()
 }
 
 /// ns per call where calls do not wait for each other, and where each waits for the last one's result
@@ -55,7 +55,7 @@ fn time(root: impl Fn(f64) -> f64, values: &[f64]) -> (f64, f64) {
     best
 }
 
-fn main() {
+pub fn print() {
     println!("| inputs | calls | machine, ns | proved, ns | ratio |");
     println!("|---|---|---|---|---|");
     let ranges = [
@@ -66,11 +66,14 @@ fn main() {
     for (name, low, high) in ranges {
         let values = inputs(low, high);
         for &x in &values {
-            assert_eq!(pixel_step_sqrt(x).to_bits(), x.sqrt().to_bits(), "{x:e}");
+            assert_eq!(sqrt(x).to_bits(), x.sqrt().to_bits(), "{x:e}");
         }
         let machine = time(machine_sqrt, &values);
-        let proved = time(|x| pixel_step_sqrt(x), &values);
-        for (kind, m, p) in [("independent", machine.0, proved.0), ("chained", machine.1, proved.1)] {
+        let proved = time(sqrt, &values);
+        for (kind, m, p) in [
+            ("independent", machine.0, proved.0),
+            ("chained", machine.1, proved.1),
+        ] {
             println!("| {name} | {kind} | {m:.2} | {p:.2} | {:.2} |", p / m);
         }
     }
