@@ -4,10 +4,10 @@ ghost use mathlib.Core.Path.{_≡_};
 ghost use Prim.Native.Nat.{_≤_};
 ghost use lib.ListN.{length};
 use crate::show;
+use linearization::Pose;
 use optimizer::Rig;
 use optimizer::StepResult;
 use projection::PinholeCamera;
-use schur::Pose;
 
 // What is varied of five points at depth 1, seen without error by two cameras that stand one apart
 struct Problem {

@@ -1,10 +1,10 @@
 // The figures of the block maker and of the system: document 01's sample plate, and its rows.
 use crate::show;
+use linearization::Dot;
+use linearization::LocalLinearization;
+use linearization::Pose;
 use point_block::PointBlockFactor;
 use projection::PinholeCamera;
-use schur::Dot;
-use schur::LocalLinearization;
-use schur::Pose;
 use schur::ReducedSystem;
 
 pub fn print() {
@@ -89,7 +89,7 @@ fn seen(x: f64, y: f64, off: f64) -> LocalLinearization {
         view2: [0.5 * x, 0.5 * y],
         inverse_deviation: 1.0,
     };
-    schur::linearize_point(camera, camera, pose, dot)
+    linearization::linearize_point(camera, camera, pose, dot)
 }
 
 // `add` on a system with these counts: its refusal, or the counts that it leaves

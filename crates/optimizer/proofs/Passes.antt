@@ -14,9 +14,10 @@ use Rattle.refusal.specs.Refused.{isNone}
 use Rattle.point_block.specs.Lone.{factor, goodDamping}
 use Rattle.schur.specs.System.{newSystem, add}
 use Rattle.schur.specs.Model.{finishDamping}
-use Rattle.schur.specs.PointStep.{stepOf, stepped, notStepped, pointStep}
-use Rattle.schur.specs.declared.linearize.LocalLinearization.{LocalLinearization}
-use Rattle.schur.specs.declared.linearize.Dot.{Dot}
+use Rattle.linearization.specs.Linearize.{pointTerms}
+use Rattle.schur.specs.PointStep.{stepOf, stepped, notStepped, stepOfTerms, pointStep}
+use Rattle.linearization.specs.declared.linearize.LocalLinearization.{LocalLinearization}
+use Rattle.linearization.specs.declared.views.Dot.{Dot}
 use Rattle.schur.specs.declared.point_step.PointStep.{PointStep}
 use Rattle.schur.specs.declared.system.ReducedSystem.{ReducedSystem}
 use Rattle.schur.specs.declared.system.Added.{Added}
@@ -51,10 +52,10 @@ three (a ∷ b ∷ c ∷ []) e = refl
 three (a ∷ b ∷ c ∷ d ∷ l) e = absurd (omega arith)
 
 step-length : (b : LocalLinearization) (d : Float) (s : List Float) → length (pointStep b d s .step) ≡ 3
-unfolding pointStep stepped stepOf notStepped
+unfolding pointStep stepOfTerms pointTerms stepped stepOf notStepped
 step-length b d s = by (goodDamping d) (isNone (factor (b .«point_hessian») d .refusal))
   where
-    by : (x y : Bool) → length (cond x (cond y (stepped (factor (b .«point_hessian») d .inverse) b s) (notStepped 10)) (notStepped 3) .step) ≡ 3
+    by : (x y : Bool) → length (cond x (cond y (stepped (factor (b .«point_hessian») d .inverse) (pointTerms b) s) (notStepped 10)) (notStepped 3) .step) ≡ 3
     by true true = refl
     by true false = refl
     by false y = refl

@@ -15,11 +15,12 @@ use Rattle.refusal.specs.Refused.{none}
 use Rattle.point_block.specs.Lone.{goodDamping}
 use Rattle.point_block.proofs.Laws.{lone-factors}
 use Rattle.schur.specs.Model.{withHessian, finishDamping, isValid}
-use Rattle.schur.specs.PointStep.{stepped, pointStep}
+use Rattle.linearization.specs.Linearize.{pointTerms}
+use Rattle.schur.specs.PointStep.{stepped, stepOfTerms, pointStep}
 use Rattle.schur.specs.System.{newSystem}
 use Rattle.schur.specs.Claim.{WeakCount}
 use Rattle.schur.specs.Calls.{Inputs, Call, atDamping, after, factors, smallRcond, atZero, blocksIn, every, those}
-use Rattle.schur.specs.declared.linearize.LocalLinearization.{LocalLinearization}
+use Rattle.linearization.specs.declared.linearize.LocalLinearization.{LocalLinearization}
 use Rattle.schur.specs.declared.system.ReducedSystem.{ReducedSystem}
 use Rattle.schur.proofs.Claim.{claim}
 use Rattle.optimizer.specs.Problem.{Problem, count, dotAt, blockOf, blockAt}
@@ -77,7 +78,7 @@ unfolding finishDamping withHessian
 same-count s d g = rw (is-true (goodDamping d) g) refl
 
 steps : (b : LocalLinearization) (d : Float) (s : List Float) → T (goodDamping d) → factors d b ≡ true → pointStep b d s .refusal ≡ none
-unfolding pointStep stepped factors
+unfolding pointStep stepOfTerms pointTerms stepped factors
 steps b d s g e = rw (is-true (goodDamping d) g, sym (lone-factors (b .«point_hessian») d g) ∙ e) refl
 
 -- every block of a problem that has a valid system factors

@@ -9,9 +9,9 @@ use Rattle.number.specs.Vectors.{_!_}
 use Rattle.projection.specs.Pose.{rotate, cameraPoint}
 use Rattle.projection.specs.Projection.{pixelProjection}
 use Rattle.projection.specs.declared.Projected.{Projected}
-use Rattle.schur.specs.Linearize.{linearizePoint}
-use Rattle.schur.specs.declared.linearize.LocalLinearization.{LocalLinearization}
-use Rattle.schur.specs.declared.linearize.Dot.{Dot}
+use Rattle.linearization.specs.Linearize.{linearizePoint}
+use Rattle.linearization.specs.declared.linearize.LocalLinearization.{LocalLinearization}
+use Rattle.linearization.specs.declared.views.Dot.{Dot}
 use Rattle.optimizer.specs.declared.Rig.{Rig}
 
 -- three numbers a point, two a point in each view, one a point

@@ -21,7 +21,7 @@ use Rattle.schur.specs.System.{newSystem, add}
 use Rattle.schur.specs.Model.{finishDamping, isValid, gradientInfNorm, predictedReduction}
 use Rattle.schur.specs.PointStep.{pointStep}
 use Rattle.schur.specs.declared.system.ReducedSystem.{ReducedSystem}
-use Rattle.schur.specs.declared.linearize.Dot.{Dot}
+use Rattle.linearization.specs.declared.views.Dot.{Dot}
 use Rattle.schur.specs.declared.point_step.PointStep.{PointStep}
 use Rattle.optimizer.specs.declared.Rig.{Rig}
 use Rattle.optimizer.specs.declared.StepResult.{StepResult}

@@ -88,7 +88,7 @@ fn deviations_refused(inverse_deviations: &[f64]) -> Refusal
     ensures { λ r. ⌜ r ≡ First.first (Checks.deviationAt (now («inverse_deviations» .entry))) 0 (length (now («inverse_deviations» .entry))) ⌝ }
 {
     for i in 0..inverse_deviations.len() {
-        if !schur::good_deviation(inverse_deviations[i]) {
+        if !linearization::good_deviation(inverse_deviations[i]) {
             return Refusal::at(refusal::INVERSE_DEVIATION, 0, i as u32);
         }
     }

@@ -5,11 +5,13 @@
 ghost use mathlib.Core.Path.{_≡_};
 ghost use Prim.Native.Nat.{_<_, _≤_, _*_, _+_};
 ghost use lib.ListN.{length};
+ghost use Rattle.linearization.specs.Linearize as Linearize;
 ghost use Rattle.optimizer.specs.Problem as Problem;
 use crate::Rig;
+use linearization::Dot;
+use linearization::LocalLinearization;
+use linearization::PointTerms;
 use projection::Projected;
-use schur::Dot;
-use schur::LocalLinearization;
 
 pub(crate) fn point_at(points: &[f64], i: usize) -> [f64; 3]
     requires { ⌜ 3 * i + 2 < length (now points) ⌝ }
@@ -63,7 +65,17 @@ pub(crate) fn block_of(rig: Rig, dot: Dot) -> LocalLinearization
     let camera1 = rig.camera1;
     let camera2 = rig.camera2;
     let pose = rig.pose;
-    schur::linearize_point(camera1, camera2, pose, dot)
+    linearization::linearize_point(camera1, camera2, pose, dot)
+}
+
+// What the step of a dot's point needs of its block
+pub(crate) fn terms_of(rig: Rig, dot: Dot) -> PointTerms
+    ensures { λ r. ⌜ r ≡ Linearize.pointTerms (Problem.blockOf rig dot) ⌝ }
+{
+    let camera1 = rig.camera1;
+    let camera2 = rig.camera2;
+    let pose = rig.pose;
+    linearization::point_terms(camera1, camera2, pose, dot)
 }
 
 // A point as view 1 or 2 sees it
@@ -78,7 +90,10 @@ pub(crate) fn project(rig: Rig, view: u32, observation: [f64; 2], point: [f64; 3
     if view == 1 {
         projection::pixel_projection(camera1, observation, point)
     } else {
-        let moved = schur::camera_point(schur::rotate(rotation, point), translation);
+        let moved = linearization::camera_point(
+            linearization::rotate(rotation, point),
+            translation,
+        );
         projection::pixel_projection(camera2, observation, moved)
     }
 }

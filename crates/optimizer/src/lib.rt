@@ -11,11 +11,11 @@ mod whole_step;
 
 pub use checks::refused;
 pub use limit::limit_pose_step;
+use linearization::Pose;
 use projection::PinholeCamera;
 pub use reduced::Reduced;
 pub use reduced::reduced_system;
 use refusal::Refusal;
-use schur::Pose;
 pub use whole_step::step;
 
 // The two cameras, and how the second one sits

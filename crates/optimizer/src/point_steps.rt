@@ -10,7 +10,7 @@ ghost use Rattle.optimizer.specs.Problem as Problem;
 ghost use Rattle.optimizer.specs.Step as Steps;
 use crate::Rig;
 use crate::dots;
-use schur::Dot;
+use linearization::Dot;
 use schur::PointStep;
 
 // The squared lengths of the point steps and their damping norms, summed
@@ -56,7 +56,7 @@ pub(crate) fn write_steps(
 fn point_step(rig: Rig, dot: Dot, damping: f64, pose_step: [f64; 5]) -> PointStep
     ensures { λ r. ⌜ r ≡ Steps.pointStepOf rig dot damping «pose_step» ⌝ }
 {
-    schur::point_step_with_damping_norm(dots::block_of(rig, dot), damping, pose_step)
+    schur::step_of_terms(dots::terms_of(rig, dot), damping, pose_step)
 }
 
 // The sum begins at −0.

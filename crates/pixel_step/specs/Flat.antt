@@ -9,9 +9,9 @@ use lib.Ieee.{Float}
 use Rattle.number.specs.Vectors.{_!_}
 use Rattle.refusal.specs.Refused.{none}
 use Rattle.projection.specs.declared.PinholeCamera.{PinholeCamera}
-use Rattle.schur.specs.declared.linearize.Dot.{Dot}
-use Rattle.schur.specs.declared.linearize.LocalLinearization.{LocalLinearization}
-use Rattle.schur.specs.declared.linearize.Pose.{Pose}
+use Rattle.linearization.specs.declared.views.Dot.{Dot}
+use Rattle.linearization.specs.declared.linearize.LocalLinearization.{LocalLinearization}
+use Rattle.linearization.specs.declared.views.Pose.{Pose}
 use Rattle.schur.specs.declared.system.ReducedSystem.{ReducedSystem}
 use Rattle.optimizer.specs.declared.Rig.{Rig}
 use Rattle.optimizer.specs.declared.StepResult.{StepResult}

@@ -18,7 +18,7 @@ use Rattle.point_block.specs.Lone as Lone
 use Rattle.solver.specs.Solver as Solver
 use Rattle.record.specs.Text.{pasted}
 use Rattle.record.specs.Lists.{list}
-use Rattle.schur.specs.Linearize as Linearize
+use Rattle.linearization.specs.Linearize as Linearize
 use Rattle.schur.specs.System as System
 use Rattle.schur.specs.Model as Model
 use Rattle.schur.specs.PointStep as PointStep

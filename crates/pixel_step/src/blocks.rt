@@ -16,7 +16,7 @@ pub extern "C" fn pixel_step_linearize_point(rig: &[f64], dot: &[f64], out: &mut
     let camera1 = r.camera1;
     let camera2 = r.camera2;
     let pose = r.pose;
-    let b = schur::linearize_point(camera1, camera2, pose, flat::dot(dot));
+    let b = linearization::linearize_point(camera1, camera2, pose, flat::dot(dot));
     let refusal = b.refusal;
     let values = flat::block_numbers(b);
     memory::answer(refusal, &values, out)

@@ -3,13 +3,13 @@ ghost use mathlib.Core.Path.{_≡_};
 ghost use lib.ListN.{length};
 ghost use Rattle.pixel_step.specs.Flat as Flat;
 use crate::memory;
+use linearization::Dot;
+use linearization::LocalLinearization;
+use linearization::Pose;
 use optimizer::Rig;
 use optimizer::StepResult;
 use projection::PinholeCamera;
 use refusal::Refusal;
-use schur::Dot;
-use schur::LocalLinearization;
-use schur::Pose;
 use schur::ReducedSystem;
 
 pub(crate) fn camera(x: &[f64]) -> PinholeCamera

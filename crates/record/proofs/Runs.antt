@@ -11,8 +11,8 @@ use lib.Dec.{ltb}
 use lib.ListN.{length}
 use lib.Ieee.{Float}
 use Rattle.number.specs.Vectors.{_!_, tabulate}
-use Rattle.schur.specs.declared.linearize.Dot.{Dot}
-use Rattle.schur.specs.declared.linearize.LocalLinearization.{LocalLinearization}
+use Rattle.linearization.specs.declared.views.Dot.{Dot}
+use Rattle.linearization.specs.declared.linearize.LocalLinearization.{LocalLinearization}
 use Rattle.optimizer.specs.declared.Rig.{Rig}
 use Rattle.optimizer.specs.Problem.{Problem, problem, dotAt, blockOf, blockAt}
 use Rattle.record.specs.Form.{pointFields, Formed}

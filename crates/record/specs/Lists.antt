@@ -12,7 +12,7 @@ use Rattle.refusal.specs.First.{orElse}
 use Rattle.refusal.specs.declared.Refusal.{Refusal}
 use Rattle.point_block.specs.Lone.{loneFactor}
 use Rattle.schur.specs.Model.{isValid}
-use Rattle.schur.specs.declared.linearize.LocalLinearization.{LocalLinearization}
+use Rattle.linearization.specs.declared.linearize.LocalLinearization.{LocalLinearization}
 use Rattle.schur.specs.declared.system.ReducedSystem.{ReducedSystem}
 use Rattle.optimizer.specs.Problem.{Problem, blockAt}
 use Rattle.optimizer.specs.Checks as Checks

@@ -4,7 +4,7 @@ use mathlib.Core.List.{List, [], _∷_, _++_}
 use lib.Ieee.{Float, binary64, ofBits}
 use Rattle.number.specs.Vectors.{tabulate}
 use Rattle.projection.specs.declared.PinholeCamera.{PinholeCamera}
-use Rattle.schur.specs.declared.linearize.Dot.{Dot}
+use Rattle.linearization.specs.declared.views.Dot.{Dot}
 use Rattle.optimizer.specs.declared.Rig.{Rig}
 use Rattle.optimizer.specs.Problem.{Problem, problem}
 use Rattle.record.specs.Form.{byte, camera1At, camera2At, poseAt, basisAt, dampingAt, pointsAt, pointFields}

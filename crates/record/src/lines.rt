@@ -3,9 +3,9 @@ ghost use mathlib.Core.Path.{_≡_};
 ghost use Rattle.record.specs.Lists as Lists;
 ghost use Rattle.record.specs.Text as Text;
 use crate::text;
+use linearization::LocalLinearization;
 use point_block::PointBlockFactor;
 use refusal::Refusal;
-use schur::LocalLinearization;
 use schur::ReducedSystem;
 
 // `run`, the number of points, the damping's bits

@@ -7,11 +7,11 @@ ghost use Rattle.optimizer.specs.Problem as Problem;
 ghost use Rattle.record.specs.Form as Form;
 ghost use Rattle.record.specs.Run as Run;
 use crate::fields;
+use linearization::Dot;
+use linearization::LocalLinearization;
+use linearization::Pose;
 use optimizer::Rig;
 use projection::PinholeCamera;
-use schur::Dot;
-use schur::LocalLinearization;
-use schur::Pose;
 
 // Four bytes, low byte first
 fn half_at(record: &[u8], at: usize) -> u64
@@ -122,5 +122,5 @@ pub(crate) fn block_at(record: &[u8], rig: Rig, i: usize) -> LocalLinearization
     let camera1 = rig.camera1;
     let camera2 = rig.camera2;
     let pose = rig.pose;
-    schur::linearize_point(camera1, camera2, pose, dot_at(record, i))
+    linearization::linearize_point(camera1, camera2, pose, dot_at(record, i))
 }

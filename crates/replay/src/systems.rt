@@ -6,10 +6,10 @@ use crate::files;
 use crate::files::ROOM;
 use crate::outcomes::Outcome;
 use crate::projections;
+use linearization::Dot;
+use linearization::LocalLinearization;
+use linearization::Pose;
 use refusal::Refusal;
-use schur::Dot;
-use schur::LocalLinearization;
-use schur::Pose;
 use schur::ReducedSystem;
 
 pub fn replay(text: &mut [u8; ROOM]) {
@@ -48,7 +48,7 @@ pub fn linearize_point(case: Case) -> Outcome {
     let camera2 = projections::camera(case, 5);
     made(
         case,
-        schur::linearize_point(camera1, camera2, pose(case), dot(case)),
+        linearization::linearize_point(camera1, camera2, pose(case), dot(case)),
     )
 }
 

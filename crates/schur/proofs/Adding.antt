@@ -16,7 +16,7 @@ use Rattle.refusal.specs.declared.Refusal.{Refusal}
 use Rattle.point_block.specs.Condition.{reciprocalConditionNumber}
 use Rattle.point_block.specs.Lone.{factor, goodDamping}
 use Rattle.point_block.specs.declared.PointBlockFactor.{PointBlockFactor}
-use Rattle.schur.specs.declared.linearize.LocalLinearization.{LocalLinearization}
+use Rattle.linearization.specs.declared.linearize.LocalLinearization.{LocalLinearization}
 use Rattle.schur.specs.declared.system.ReducedSystem.{ReducedSystem}
 use Rattle.schur.specs.Model.{dampedHessian, withHessian, finishDamping, reductionOf, predictedReduction}
 use Rattle.schur.specs.System.{maxBlocks, raised, pointGradientNorm, reducedHessian, reducedGradient, pointReduction, takenWith, takenRefused, takenFactored, taken, add}

@@ -20,12 +20,12 @@ use Rattle.refusal.specs.Refused.{of, none, isNone}
 use Rattle.point_block.specs.Condition.{reciprocalConditionNumber}
 use Rattle.point_block.specs.Lone.{factor, goodDamping, loneFactor}
 use Rattle.point_block.proofs.Laws.{lone-factors, rcond-nonneg}
-use Rattle.schur.specs.declared.linearize.LocalLinearization.{LocalLinearization}
+use Rattle.linearization.specs.declared.linearize.LocalLinearization.{LocalLinearization}
 use Rattle.schur.specs.declared.system.ReducedSystem.{ReducedSystem}
 use Rattle.schur.specs.declared.system.Added.{Added}
 use Rattle.schur.specs.System.{maxBlocks, newSystem, isZero, isWeak, raised, reducedHessian, reducedGradient, pointReduction, takenWith, takenRefused, takenFactored, taken, add}
 use Rattle.schur.specs.Calls.{Inputs, made, Call, atDamping, atRefused, added, results, after, afterBlocks, Tally, factors, smallRcond, room, takenIn, tally, refusals, blocksIn, every, those}
-use Rattle.schur.proofs.Costs.{Costs, made-costs}
+use Rattle.linearization.proofs.Costs.{Costs, made-costs}
 use Rattle.schur.specs.Claim.{CallByCall, final, SameEquations, Further, Claim}
 
 -- ---- what one call hands back

@@ -11,25 +11,25 @@ use Rattle.point_block.specs.Damping.{dampingDiagonal}
 use Rattle.point_block.specs.Lone.{factor, goodDamping}
 use Rattle.point_block.specs.declared.DampingDiagonal.{DampingDiagonal}
 use Rattle.point_block.specs.declared.PointBlockFactor.{PointBlockFactor}
-use Rattle.schur.specs.declared.linearize.LocalLinearization.{LocalLinearization}
+use Rattle.linearization.specs.declared.terms.PointTerms.{PointTerms}
 use Rattle.schur.specs.declared.point_step.PointStep.{PointStep}
-use Rattle.schur.specs.PointStep.{stepOf, dampingNorm, stepped, notStepped, pointStep}
+use Rattle.schur.specs.PointStep.{stepOf, dampingNorm, stepped, notStepped, stepOfTerms}
 
-pub stepped-is : (i : List Float) (b : LocalLinearization) (p x : List Float) (d : DampingDiagonal) (n : Float) (r : Refusal) → x ≡ stepOf i b p
+pub stepped-is : (i : List Float) (b : PointTerms) (p x : List Float) (d : DampingDiagonal) (n : Float) (r : Refusal) → x ≡ stepOf i b p
     → d ≡ dampingDiagonal (b .«point_hessian») → n ≡ dampingNorm (d .values) x → r ≡ none → record { step = x; «damping_norm» = n; refusal = r } ≡ stepped i b p
 unfolding stepped
 stepped-is i b p x d n r ex ed en er = rw (← ex, ← ed, ← en, er) refl
 
-module _ (b : LocalLinearization) (damping : Float) (p : List Float) (g : Bool) (t : g ≡ goodDamping damping) (r : PointStep) where
-  pub step-no-damping : not g ≡ true → r ≡ notStepped Rows.damping → r ≡ pointStep b damping p
-  unfolding pointStep
+module _ (b : PointTerms) (damping : Float) (p : List Float) (g : Bool) (t : g ≡ goodDamping damping) (r : PointStep) where
+  pub step-no-damping : not g ≡ true → r ≡ notStepped Rows.damping → r ≡ stepOfTerms b damping p
+  unfolding stepOfTerms
   step-no-damping h q = rw (← t, not-true g h) q
 
   module _ (h : not g ≡ false) (f : PointBlockFactor) (n : Bool) (e : f ≡ factor (b .«point_hessian») damping) (u : n ≡ isNone (f .refusal)) where
-    pub step-no-factor : not n ≡ true → r ≡ notStepped Rows.notFactored → r ≡ pointStep b damping p
-    unfolding pointStep
+    pub step-no-factor : not n ≡ true → r ≡ notStepped Rows.notFactored → r ≡ stepOfTerms b damping p
+    unfolding stepOfTerms
     step-no-factor k q = rw (← t, not-false g h, ← e, ← u, not-true n k) q
 
-    pub step-some : not n ≡ false → r ≡ stepped (f .inverse) b p → r ≡ pointStep b damping p
-    unfolding pointStep
+    pub step-some : not n ≡ false → r ≡ stepped (f .inverse) b p → r ≡ stepOfTerms b damping p
+    unfolding stepOfTerms
     step-some k q = rw (← t, not-false g h, ← e, ← u, not-false n k) q

@@ -11,12 +11,12 @@ use Rattle.refusal.specs.Refused.{of, none, isNone}
 use Rattle.refusal.specs.declared.Refusal.{Refusal}
 use Rattle.projection.specs.declared.PinholeCamera.{PinholeCamera}
 use Rattle.point_block.specs.Lone.{goodDamping, loneFactor}
-use Rattle.schur.specs.declared.linearize.LocalLinearization.{LocalLinearization}
-use Rattle.schur.specs.declared.linearize.Pose.{Pose}
-use Rattle.schur.specs.declared.linearize.Dot.{Dot}
+use Rattle.linearization.specs.declared.linearize.LocalLinearization.{LocalLinearization}
+use Rattle.linearization.specs.declared.views.Pose.{Pose}
+use Rattle.linearization.specs.declared.views.Dot.{Dot}
 use Rattle.schur.specs.declared.system.ReducedSystem.{ReducedSystem}
 use Rattle.schur.specs.declared.system.Added.{Added}
-use Rattle.schur.specs.Linearize.{linearizePoint}
+use Rattle.linearization.specs.Linearize.{linearizePoint}
 use Rattle.schur.specs.System.{add}
 
 -- what a block is made from

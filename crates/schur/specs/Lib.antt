@@ -1,7 +1,4 @@
 -- Module 5 of document 01: schur.rs.
-pub mod Views
-pub mod Accumulate
-pub mod Linearize
 pub mod System
 pub mod Model
 pub mod PointStep

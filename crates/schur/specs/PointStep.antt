@@ -10,31 +10,36 @@ use Rattle.refusal.specs.Refused.{of, none, isNone}
 use Rattle.point_block.specs.Damping.{dampingDiagonal}
 use Rattle.point_block.specs.Factor.{solve}
 use Rattle.point_block.specs.Lone.{factor, goodDamping}
-use Rattle.schur.specs.declared.linearize.LocalLinearization.{LocalLinearization}
+use Rattle.linearization.specs.declared.linearize.LocalLinearization.{LocalLinearization}
+use Rattle.linearization.specs.declared.terms.PointTerms.{PointTerms}
+use Rattle.linearization.specs.Linearize.{pointTerms}
 use Rattle.schur.specs.declared.point_step.PointStep.{PointStep}
 
 -- the point's gradient with what the pose's step adds to it
-unfoldable pub rightHandSide : LocalLinearization → List Float → List Float
-rightHandSide b poseStep =
-    tabulate 3 (λ i. b .«point_gradient» ! i ⊕ sum (tabulate 5 (λ p. b .«cross_hessian» ! (3 * p + i) ⊗ poseStep ! p)))
+unfoldable pub rightHandSide : PointTerms → List Float → List Float
+rightHandSide t poseStep =
+    tabulate 3 (λ i. t .«point_gradient» ! i ⊕ sum (tabulate 5 (λ p. t .«cross_hessian» ! (3 * p + i) ⊗ poseStep ! p)))
 
-unfoldable pub stepOf : List Float → LocalLinearization → List Float → List Float
-stepOf inverse b poseStep = tabulate 3 (λ i. neg (solve inverse (rightHandSide b poseStep) ! i))
+unfoldable pub stepOf : List Float → PointTerms → List Float → List Float
+stepOf inverse t poseStep = tabulate 3 (λ i. neg (solve inverse (rightHandSide t poseStep) ! i))
 
 unfoldable pub dampingNorm : List Float → List Float → Float
 dampingNorm diagonal step = sum (tabulate 3 (λ i. diagonal ! i ⊗ step ! i ⊗ step ! i))
 
-unfoldable pub stepped : List Float → LocalLinearization → List Float → PointStep
-stepped inverse b poseStep =
-    let step = stepOf inverse b poseStep in
-    record { step = step; «damping_norm» = dampingNorm (dampingDiagonal (b .«point_hessian») .values) step; refusal = none }
+unfoldable pub stepped : List Float → PointTerms → List Float → PointStep
+stepped inverse t poseStep =
+    let step = stepOf inverse t poseStep in
+    record { step = step; «damping_norm» = dampingNorm (dampingDiagonal (t .«point_hessian») .values) step; refusal = none }
 
 -- every number beside a refusal is +0
 unfoldable pub notStepped : ℕ → PointStep
 notStepped row = record { step = tabulate 3 (λ i. zero); «damping_norm» = zero; refusal = of row }
 
 -- tests row 3, then row 10
+unfoldable pub stepOfTerms : PointTerms → Float → List Float → PointStep
+stepOfTerms t damping poseStep =
+    let f = factor (t .«point_hessian») damping in
+    cond (goodDamping damping) (cond (isNone (f .refusal)) (stepped (f .inverse) t poseStep) (notStepped Rows.notFactored)) (notStepped Rows.damping)
+
 unfoldable pub pointStep : LocalLinearization → Float → List Float → PointStep
-pointStep b damping poseStep =
-    let f = factor (b .«point_hessian») damping in
-    cond (goodDamping damping) (cond (isNone (f .refusal)) (stepped (f .inverse) b poseStep) (notStepped Rows.notFactored)) (notStepped Rows.damping)
+pointStep b damping poseStep = stepOfTerms (pointTerms b) damping poseStep

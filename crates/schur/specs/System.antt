@@ -15,7 +15,7 @@ use Rattle.point_block.specs.Damping.{positiveFinite}
 use Rattle.point_block.specs.Factor.{solve}
 use Rattle.point_block.specs.Condition.{reciprocalConditionNumber}
 use Rattle.point_block.specs.Lone.{factor, goodDamping}
-use Rattle.schur.specs.declared.linearize.LocalLinearization.{LocalLinearization}
+use Rattle.linearization.specs.declared.linearize.LocalLinearization.{LocalLinearization}
 use Rattle.schur.specs.declared.system.ReducedSystem.{ReducedSystem}
 use Rattle.schur.specs.declared.system.Added.{Added}
 
@@ -75,21 +75,22 @@ crossRow cross row = cross ! (3 * row) ∷ cross ! (3 * row + 1) ∷ cross ! (3 
 unfoldable pub inverseGradient : List Float → LocalLinearization → List Float
 inverseGradient inverse b = solve inverse (b .«point_gradient»)
 
--- the inverse times each row of the cross Hessian
-unfoldable pub inverseCross : List Float → List Float → List Float
-inverseCross inverse cross = tabulate 15 (λ k. solve inverse (crossRow cross (k / 3)) ! (k % 3))
+-- five sums once the point is eliminated: to each is added the pose's part, less the row of the cross Hessian times x
+unfoldable pub reduced : List Float → List Float → List Float → List Float → List Float
+reduced sums pose cross x = tabulate 5 (λ i. sums ! i ⊕ (pose ! i ⊖ dot3 (crossRow cross i) x))
 
--- what is left of the pose's entry at row i and column j once the point is eliminated
-abbrev pub leftOf : Float → List Float → List Float → ℕ → ℕ → Float
-leftOf pose cross inverse i j = pose ⊖ dot3 (crossRow cross i) (crossRow inverse j)
+-- column k of a 5 by 5 matrix
+unfoldable pub column : List Float → ℕ → List Float
+column h k = h ! k ∷ h ! (5 + k) ∷ h ! (10 + k) ∷ h ! (15 + k) ∷ h ! (20 + k) ∷ []
 
+-- at row i and column j, x is the inverse times row j of the cross Hessian
 unfoldable pub reducedHessian : List Float → List Float → LocalLinearization → List Float
 reducedHessian h inverse b =
-    tabulate 25 (λ k. h ! k ⊕ leftOf (b .«pose_hessian» ! k) (b .«cross_hessian») (inverseCross inverse (b .«cross_hessian»)) (k / 5) (k % 5))
+    let cross = b .«cross_hessian» in
+    tabulate 25 (λ k. h ! k ⊕ (b .«pose_hessian» ! k ⊖ dot3 (crossRow cross (k / 5)) (solve inverse (crossRow cross (k % 5)))))
 
 unfoldable pub reducedGradient : List Float → List Float → LocalLinearization → List Float
-reducedGradient g inverse b =
-    tabulate 5 (λ i. g ! i ⊕ (b .«pose_gradient» ! i ⊖ dot3 (crossRow (b .«cross_hessian») i) (inverseGradient inverse b)))
+reducedGradient g inverse b = reduced g (b .«pose_gradient») (b .«cross_hessian») (inverseGradient inverse b)
 
 unfoldable pub pointReduction : Float → List Float → LocalLinearization → Float
 pointReduction r inverse b = r ⊕ half ⊗ dot3 (b .«point_gradient») (inverseGradient inverse b)

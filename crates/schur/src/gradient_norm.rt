@@ -8,7 +8,7 @@ ghost use Rattle.schur.specs.System as System;
 ghost use Rattle.number.specs.Vectors as Vectors;
 ghost use Rattle.number.specs.Vectors.{_!_};
 ghost use mathlib.Core.List.{[], _∷_};
-use crate::linearize::LocalLinearization;
+use linearization::LocalLinearization;
 
 pub fn point_gradient_norm(local: LocalLinearization) -> f64
     ensures { λ r. ⌜ r ≡ System.pointGradientNorm local ⌝ }

@@ -4,7 +4,8 @@
 // How a point moves with a step of the pose.
 ghost use mathlib.Core.Path.{_≡_};
 ghost use Rattle.schur.specs.PointStep as Steps;
-use crate::linearize::LocalLinearization;
+use linearization::LocalLinearization;
+use linearization::PointTerms;
 use point_block::PointBlockFactor;
 use refusal::Refusal;
 
@@ -23,16 +24,23 @@ pub fn point_step_with_damping_norm(
 ) -> PointStep
     ensures { λ r. ⌜ r ≡ Steps.pointStep local damping «pose_step» ⌝ }
 {
+    step_of_terms(linearization::terms_of(local), damping, pose_step)
+}
+
+// The same from what a step needs of the block
+pub fn step_of_terms(terms: PointTerms, damping: f64, pose_step: [f64; 5]) -> PointStep
+    ensures { λ r. ⌜ r ≡ Steps.stepOfTerms terms damping «pose_step» ⌝ }
+{
     if !point_block::good_damping(damping) {
         return not_stepped(refusal::DAMPING);
     }
-    let matrix = local.point_hessian;
+    let matrix = terms.point_hessian;
     let factor = PointBlockFactor::factor(matrix, damping);
     let refusal = factor.refusal;
     if !refusal.is_none() {
         return not_stepped(refusal::NOT_FACTORED);
     }
-    stepped(factor, local, pose_step)
+    stepped(factor, terms, pose_step)
 }
 
 fn not_stepped(row: u32) -> PointStep
@@ -45,11 +53,11 @@ fn not_stepped(row: u32) -> PointStep
     }
 }
 
-fn stepped(factor: PointBlockFactor, local: LocalLinearization, pose_step: [f64; 5]) -> PointStep
-    ensures { λ r. ⌜ r ≡ Steps.stepped (factor .inverse) local «pose_step» ⌝ }
+fn stepped(factor: PointBlockFactor, terms: PointTerms, pose_step: [f64; 5]) -> PointStep
+    ensures { λ r. ⌜ r ≡ Steps.stepped (factor .inverse) terms «pose_step» ⌝ }
 {
-    let step = step_of(factor, local, pose_step);
-    let matrix = local.point_hessian;
+    let step = step_of(factor, terms, pose_step);
+    let matrix = terms.point_hessian;
     let diagonal = PointBlockFactor::damping_diagonal(matrix);
     let values = diagonal.values;
     PointStep {
@@ -59,19 +67,19 @@ fn stepped(factor: PointBlockFactor, local: LocalLinearization, pose_step: [f64;
     }
 }
 
-fn step_of(factor: PointBlockFactor, local: LocalLinearization, pose_step: [f64; 5]) -> [f64; 3]
-    ensures { λ r. ⌜ r ≡ Steps.stepOf (factor .inverse) local «pose_step» ⌝ }
+fn step_of(factor: PointBlockFactor, terms: PointTerms, pose_step: [f64; 5]) -> [f64; 3]
+    ensures { λ r. ⌜ r ≡ Steps.stepOf (factor .inverse) terms «pose_step» ⌝ }
 {
-    let x = factor.solve(right_hand_side(local, pose_step));
+    let x = factor.solve(right_hand_side(terms, pose_step));
     [-x[0], -x[1], -x[2]]
 }
 
 // The point's gradient with what the pose's step adds to it; each sum begins at −0.
-fn right_hand_side(local: LocalLinearization, s: [f64; 5]) -> [f64; 3]
-    ensures { λ r. ⌜ r ≡ Steps.rightHandSide local s ⌝ }
+fn right_hand_side(terms: PointTerms, s: [f64; 5]) -> [f64; 3]
+    ensures { λ r. ⌜ r ≡ Steps.rightHandSide terms s ⌝ }
 {
-    let g = local.point_gradient;
-    let c = local.cross_hessian;
+    let g = terms.point_gradient;
+    let c = terms.cross_hessian;
     [
         g[0] + (-0.0 + c[0] * s[0] + c[3] * s[1] + c[6] * s[2] + c[9] * s[3] + c[12] * s[4]),
         g[1] + (-0.0 + c[1] * s[0] + c[4] * s[1] + c[7] * s[2] + c[10] * s[3] + c[13] * s[4]),

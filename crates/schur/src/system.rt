@@ -10,8 +10,8 @@ ghost use Rattle.schur.specs.Model as Model;
 ghost use Rattle.schur.specs.System as System;
 use crate::eliminate;
 use crate::gradient_norm;
-use crate::linearize::LocalLinearization;
 use crate::model;
+use linearization::LocalLinearization;
 use point_block::PointBlockFactor;
 use refusal::Refusal;
 

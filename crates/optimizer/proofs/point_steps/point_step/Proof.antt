@@ -1,11 +1,12 @@
 -- `optimizer::point_steps::point_step` meets its contract. Assumes nothing.
+use Rattle.schur.specs.PointStep.{pointStep}
 use Rattle.optimizer.specs.Step.{pointStepOf}
 use borrow.Author.Needs.{needs}
 use Rattle.optimizer.proofs.point_steps.point_step.Statement.{statement}
 use Rattle.optimizer.proofs.point_steps.point_step.Tie as tie
 
 returns : tie.Need-returns
-unfolding pointStepOf
+unfolding pointStepOf pointStep
 returns c = cc
 
 pub point-step-spec : {M : Type 1} → statement M

@@ -1,9 +1,9 @@
 -- `pixel_step::blocks::pixel_step_linearize_point` meets its contract. Assumes nothing.
 use mathlib.Core.Path.{_≡_, sym, ap, _∙_}
 use lib.ListN.{length}
-use Rattle.schur.specs.Linearize as Linearize
-use Rattle.schur.specs.declared.linearize.Dot.{Dot}
-use Rattle.schur.specs.declared.linearize.LocalLinearization.{LocalLinearization}
+use Rattle.linearization.specs.Linearize as Linearize
+use Rattle.linearization.specs.declared.views.Dot.{Dot}
+use Rattle.linearization.specs.declared.linearize.LocalLinearization.{LocalLinearization}
 use Rattle.optimizer.specs.declared.Rig.{Rig}
 use Rattle.pixel_step.specs.Flat.{rig, blockNumbers}
 use Rattle.pixel_step.specs.Interface.{linearizePoint}

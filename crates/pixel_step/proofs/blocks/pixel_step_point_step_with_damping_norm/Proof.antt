@@ -5,7 +5,7 @@ use lib.ListN.{length}
 use lib.Ieee.{Float}
 use Rattle.number.specs.Vectors.{_!_}
 use Rattle.schur.specs.PointStep as PointStep
-use Rattle.schur.specs.declared.linearize.LocalLinearization.{LocalLinearization}
+use Rattle.linearization.specs.declared.linearize.LocalLinearization.{LocalLinearization}
 use Rattle.schur.specs.declared.point_step.PointStep as Stepped
 use Rattle.pixel_step.specs.Flat.{block}
 use Rattle.pixel_step.specs.Interface.{pointStep}

@@ -1,25 +1,14 @@
 -- `schur::point_step::point_step_with_damping_norm` meets its contract. Assumes nothing.
-use Rattle.schur.proofs.Steps.{step-no-damping, step-no-factor, step-some}
+use Rattle.schur.specs.PointStep.{pointStep}
+use mathlib.Core.Path.{refl}
+use Prim.Native.Nat.{_-_}
 use borrow.Author.Needs.{needs}
 use Rattle.schur.proofs.point_step.point_step_with_damping_norm.Statement.{statement}
 use Rattle.schur.proofs.point_step.point_step_with_damping_norm.Tie as tie
 
 returns : tie.Need-returns
-returns c = step-no-damping _ _ _ _ (c .before .before .good-damping .ensures) _ (c .before .if1 .taken) (c .not-stepped .ensures)
-
-returns-2 : tie.Need-returns-2
-returns-2 c =
-    let n = c .before .before in
-    let f = n .before .before in
-    let g = f .before .before in
-    step-no-factor _ _ _ _ (g .before .good-damping .ensures) _ (g .if1 .left) _ _ (f .factor .ensures) (n .is-none .ensures) (c .before .if2 .taken) (c .not-stepped2 .ensures)
-
-returns-3 : tie.Need-returns-3
-returns-3 c =
-    let n = c .before .before in
-    let f = n .before .before in
-    let g = f .before .before in
-    step-some _ _ _ _ (g .before .good-damping .ensures) _ (g .if1 .left) _ _ (f .factor .ensures) (n .is-none .ensures) (c .before .if2 .left) (c .stepped .ensures)
+unfolding pointStep
+returns c = rw (c .step-of-terms .ensures, c .before .terms-of .ensures) refl
 
 pub point-step-with-damping-norm-spec : {M : Type 1} → statement M
 point-step-with-damping-norm-spec =
@@ -27,10 +16,4 @@ point-step-with-damping-norm-spec =
     (tie.spec
     (λ c κs. search needs)
     (λ c κs. search needs)
-    returns
-    (λ c κs. search needs)
-    (λ c κs. search needs)
-    (λ c κs. search needs)
-    returns-2
-    (λ c κs. search needs)
-    returns-3)
+    returns)

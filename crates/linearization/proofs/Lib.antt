@@ -1,0 +1,4 @@
+-- Laws of the block maker.
+pub mod Laws
+pub mod Costs
+pub mod Columns

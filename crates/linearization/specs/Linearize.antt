@@ -1,0 +1,74 @@
+-- `linearize_point` of schur.rs with `Loss::L2`, the block maker of document 01: both views or their refusal, then the block.
+use mathlib.Core.Bool.{cond}
+use mathlib.Core.List.{List}
+use lib.Ieee.{Float}
+use Rattle.number.specs.Binary64.{_⊕_, _⊗_, zero}
+use Rattle.number.specs.Vectors.{tabulate}
+use Rattle.refusal.specs.Refused.{none, isNone}
+use Rattle.refusal.specs.declared.Refusal.{Refusal}
+use Rattle.projection.specs.declared.PinholeCamera.{PinholeCamera}
+use Rattle.linearization.specs.declared.linearize.LocalLinearization.{LocalLinearization}
+use Rattle.linearization.specs.declared.terms.PointTerms.{PointTerms}
+use Rattle.linearization.specs.declared.views.Pose.{Pose}
+use Rattle.linearization.specs.declared.views.Dot.{Dot}
+use Rattle.linearization.specs.declared.views.View1.{View1}
+use Rattle.linearization.specs.declared.views.View2.{View2}
+use Rattle.linearization.specs.declared.views.LinearizedViews.{LinearizedViews}
+use Rattle.linearization.specs.Loss.{norm, lossCost}
+use Rattle.linearization.specs.Views.{linearizeViews}
+use Rattle.linearization.specs.Accumulate.{poseHessian, crossHessian, pointHessian, poseProducts, pointProducts}
+
+-- every number beside a refusal is +0
+unfoldable pub notMade : Refusal → LocalLinearization
+notMade r = record {
+  «pose_hessian» = tabulate 25 (λ i. zero);
+  «cross_hessian» = tabulate 15 (λ i. zero);
+  «point_hessian» = tabulate 9 (λ i. zero);
+  «pose_gradient» = tabulate 5 (λ i. zero);
+  «point_gradient» = tabulate 3 (λ i. zero);
+  cost = zero;
+  «squared_residual» = zero;
+  refusal = r;
+}
+
+-- the pose's ten derivatives in view 1
+abbrev pub poseRows : View1 → List Float
+poseRows a = tabulate 10 (λ i. a .pose)
+
+unfoldable pub sums : LinearizedViews → Float → Float → LocalLinearization
+sums v cost squared =
+    let a = v .first in
+    let b = v .second in
+    record {
+      «pose_hessian» = poseHessian (poseRows a) (b .pose);
+      «cross_hessian» = crossHessian (poseRows a) (a .point) (b .pose) (b .point);
+      «point_hessian» = pointHessian (a .point) (b .point);
+      «pose_gradient» = poseProducts (poseRows a) (a .residual) (b .pose) (b .residual);
+      «point_gradient» = pointProducts (a .point) (a .residual) (b .point) (b .residual);
+      cost = cost;
+      «squared_residual» = squared;
+      refusal = none;
+    }
+
+-- cost and squared residual are added from +0
+unfoldable pub block : LinearizedViews → Float → LocalLinearization
+block v weight =
+    let m = norm (v .residual1) in
+    let n = norm (v .residual2) in
+    sums v (zero ⊕ lossCost (m ⊗ weight) ⊕ lossCost (n ⊗ weight)) (zero ⊕ m ⊗ m ⊕ n ⊗ n)
+
+unfoldable pub linearizePoint : PinholeCamera → PinholeCamera → Pose → Dot → LocalLinearization
+linearizePoint camera1 camera2 pose dot =
+    let v = linearizeViews camera1 camera2 pose dot in
+    cond (isNone (v .refusal)) (block v (dot .«inverse_deviation»)) (notMade (v .refusal))
+
+-- what the step of a point needs of its block
+unfoldable pub pointTerms : LocalLinearization → PointTerms
+pointTerms b = record { «cross_hessian» = b .«cross_hessian»; «point_hessian» = b .«point_hessian»; «point_gradient» = b .«point_gradient» }
+
+unfoldable pub terms : View1 → View2 → PointTerms
+terms a b = record {
+  «cross_hessian» = crossHessian (poseRows a) (a .point) (b .pose) (b .point);
+  «point_hessian» = pointHessian (a .point) (b .point);
+  «point_gradient» = pointProducts (a .point) (a .residual) (b .point) (b .residual);
+}

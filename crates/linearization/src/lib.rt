@@ -1,0 +1,22 @@
+// SPDX-FileCopyrightText: 2026 Pierre Moulon and OpenMVG Rust contributors
+// SPDX-License-Identifier: MIT OR Apache-2.0
+
+// The block maker of the two-view problem, `linearize_point` of kernel/two_view/schur.rs.
+mod accumulate;
+mod jacobians;
+mod linearize;
+mod loss;
+mod terms;
+mod views;
+
+pub use accumulate::from_columns;
+pub use jacobians::camera_point;
+pub use jacobians::rotate;
+pub use linearize::LocalLinearization;
+pub use linearize::linearize_point;
+pub use terms::PointTerms;
+pub use terms::point_terms;
+pub use terms::terms_of;
+pub use views::Dot;
+pub use views::Pose;
+pub use views::good_deviation;
