@@ -1,5 +1,5 @@
 -- The answers of `add` and what it calls, by the tests that lead to each. Assumes nothing.
-use mathlib.Core.Path.{_≡_, refl, ap₂, _∙_}
+use mathlib.Core.Path.{_≡_, refl}
 use mathlib.Core.Bool.{Bool, true, false, not, cond}
 use mathlib.Core.List.{List}
 use Prim.Native.Nat.{ℕ, _+_, _*_, _<_, _≤_}
@@ -18,8 +18,9 @@ use Rattle.point_block.specs.Lone.{factor, goodDamping}
 use Rattle.point_block.specs.declared.PointBlockFactor.{PointBlockFactor}
 use Rattle.linearization.specs.declared.linearize.LocalLinearization.{LocalLinearization}
 use Rattle.schur.specs.declared.system.ReducedSystem.{ReducedSystem}
+use Rattle.schur.specs.declared.system.Eliminated.{Eliminated}
 use Rattle.schur.specs.Model.{dampedHessian, withHessian, finishDamping, reductionOf, predictedReduction}
-use Rattle.schur.specs.System.{maxBlocks, raised, pointGradientNorm, reducedHessian, reducedGradient, pointReduction, takenWith, takenRefused, takenFactored, taken, add}
+use Rattle.schur.specs.System.{maxBlocks, raised, pointGradientNorm, reducedHessian, reducedGradient, pointReduction, isWeak, notEliminated, eliminated, elimination, takenWith, taken, add}
 
 pub below : (m n : ℕ) → not (ltb m n) ≡ false → m < n
 below m n h = ltb→lt m n (rw (not-false (ltb m n) h) tt)
@@ -28,50 +29,46 @@ pub at-most : (m n : ℕ) → not (leb m n) ≡ false → m ≤ n
 at-most m n h = leb→le m n (rw (not-false (leb m n) h) tt)
 
 -- what every block brings
-pub takes-with : (s : ReducedSystem) (b : LocalLinearization) (h g : List Float) (x : Float) (w : ℕ) (r : Float) (v : Bool) (k m : Float) → k ≡ pointGradientNorm b
-    → m ≡ max (s .«scaled_point_gradient_inf_norm») k → record {
-      hessian = h;
-      gradient = g;
-      cost = s .cost ⊕ b .cost;
-      «squared_residual» = s .«squared_residual» ⊕ b .«squared_residual»;
-      «full_pose_gradient» = tabulate 5 (λ i. s .«full_pose_gradient» ! i ⊕ b .«pose_gradient» ! i);
-      «pose_diagonal» = tabulate 5 (λ i. s .«pose_diagonal» ! i ⊕ b .«pose_hessian» ! (6 * i));
-      «point_model_reduction» = x;
-      «scaled_point_gradient_inf_norm» = m;
-      «weak_point_count» = w;
-      «minimum_point_rcond» = r;
-      valid = v;
-      «block_count» = s .«block_count» + 1;
-    } ≡ takenWith s b h g x w r v
+pub takes-with : (s : ReducedSystem) (b : LocalLinearization) (e : Eliminated) (k m : Float) → k ≡ pointGradientNorm b → m ≡ max (s .«scaled_point_gradient_inf_norm») k → record {
+  hessian = e .hessian;
+  gradient = e .gradient;
+  cost = s .cost ⊕ b .cost;
+  «squared_residual» = s .«squared_residual» ⊕ b .«squared_residual»;
+  «full_pose_gradient» = tabulate 5 (λ i. s .«full_pose_gradient» ! i ⊕ b .«pose_gradient» ! i);
+  «pose_diagonal» = tabulate 5 (λ i. s .«pose_diagonal» ! i ⊕ b .«pose_hessian» ! (6 * i));
+  «point_model_reduction» = e .«point_model_reduction»;
+  «scaled_point_gradient_inf_norm» = m;
+  «weak_point_count» = e .«weak_point_count»;
+  «minimum_point_rcond» = e .«minimum_point_rcond»;
+  valid = e .valid;
+  «block_count» = s .«block_count» + 1;
+} ≡ takenWith s b e
 unfolding takenWith
-takes-with s b h g x w r v k m ek em = rw (em, ek, add-one (s .«block_count»)) refl
+takes-with s b e k m ek em = rw (em, ek, add-one (s .«block_count»)) refl
 
 module _ (s : ReducedSystem) (b : LocalLinearization) (damping : Float) where
   module _ (i h g : List Float) (x : Float) (eh : h ≡ reducedHessian (s .hessian) i b) (eg : g ≡ reducedGradient (s .gradient) i b)
       (ex : x ≡ pointReduction (s .«point_model_reduction») i b) where
-    pub factored-at-zero : (r : ReducedSystem) (c : ℕ) (k m : Float) → eq damping zero ≡ true → k ≡ reciprocalConditionNumber i (b .«point_hessian»)
-        → c ≡ raised (le k epsilon192) (s .«weak_point_count») → m ≡ min (s .«minimum_point_rcond») k → r ≡ takenWith s b h g x c m (s .valid) → r ≡ takenFactored s b damping i
-    unfolding takenFactored
-    factored-at-zero r c k m z ek ec em q = rw (← eh, ← eg, ← ex, z, ← ek) (q ∙ ap₂ (λ (c : ℕ) (m : Float). takenWith s b h g x c m (s .valid)) ec em)
+    pub eliminated-at-zero : (c : ℕ) (k m : Float) → eq damping zero ≡ true → k ≡ reciprocalConditionNumber i (b .«point_hessian»)
+        → c ≡ raised (le k epsilon192) (s .«weak_point_count») → m ≡ min (s .«minimum_point_rcond») k
+        → record { hessian = h; gradient = g; «point_model_reduction» = x; «weak_point_count» = c; «minimum_point_rcond» = m; valid = s .valid } ≡ eliminated s b damping i
+    unfolding eliminated
+    eliminated-at-zero c k m z ek ec em = rw (← eh, ← eg, ← ex, z, ← ek, ec, em) refl
 
-    pub factored-elsewhere : (r : ReducedSystem) → eq damping zero ≡ false → r ≡ takenWith s b h g x (s .«weak_point_count») (s .«minimum_point_rcond») (s .valid)
-        → r ≡ takenFactored s b damping i
-    unfolding takenFactored
-    factored-elsewhere r z q = rw (← eh, ← eg, ← ex, z) q
-
-  pub refused-is : (r : ReducedSystem) (c : ℕ) (m : Float) → c ≡ raised (eq damping zero) (s .«weak_point_count») → m ≡ cond (eq damping zero) zero (s .«minimum_point_rcond»)
-      → r ≡ takenWith s b (s .hessian) (s .gradient) (s .«point_model_reduction») c m false → r ≡ takenRefused s b damping
-  unfolding takenRefused
-  refused-is r c m ec em q = q ∙ ap₂ (λ (c : ℕ) (m : Float). takenWith s b (s .hessian) (s .gradient) (s .«point_model_reduction») c m false) ec em
+    pub eliminated-elsewhere : eq damping zero ≡ false
+        → record { hessian = h; gradient = g; «point_model_reduction» = x; «weak_point_count» = s .«weak_point_count»; «minimum_point_rcond» = s .«minimum_point_rcond»; valid = s .valid }
+        ≡ eliminated s b damping i
+    unfolding eliminated
+    eliminated-elsewhere z = rw (← eh, ← eg, ← ex, z) refl
 
   module _ (f : PointBlockFactor) (n : Bool) (e : f ≡ factor (b .«point_hessian») damping) (t : n ≡ isNone (f .refusal)) where
-    pub takes-factored : (r : ReducedSystem) → n ≡ true → r ≡ takenFactored s b damping (f .inverse) → r ≡ taken s b damping
-    unfolding taken
-    takes-factored r p q = rw (← e, ← t, p) q
+    pub eliminates : (r : Eliminated) → n ≡ true → r ≡ eliminated s b damping (f .inverse) → r ≡ elimination s b damping
+    unfolding elimination
+    eliminates r p q = rw (← e, ← t, p) q
 
-    pub takes-refused : (r : ReducedSystem) → n ≡ false → r ≡ takenRefused s b damping → r ≡ taken s b damping
-    unfolding taken
-    takes-refused r p q = rw (← e, ← t, p) q
+    pub eliminates-not : (r : Eliminated) → n ≡ false → r ≡ notEliminated s damping → r ≡ elimination s b damping
+    unfolding elimination
+    eliminates-not r p q = rw (← e, ← t, p) q
 
   module _ (g : Bool) (t : g ≡ goodDamping damping) (r : Refusal) where
     pub adds-no-damping : not g ≡ true → r ≡ of Rows.damping → record { system = s; refusal = r } ≡ add s b damping

@@ -23,7 +23,7 @@ use Rattle.point_block.proofs.Laws.{lone-factors, rcond-nonneg}
 use Rattle.linearization.specs.declared.linearize.LocalLinearization.{LocalLinearization}
 use Rattle.schur.specs.declared.system.ReducedSystem.{ReducedSystem}
 use Rattle.schur.specs.declared.system.Added.{Added}
-use Rattle.schur.specs.System.{maxBlocks, newSystem, isZero, isWeak, raised, reducedHessian, reducedGradient, pointReduction, takenWith, takenRefused, takenFactored, taken, add}
+use Rattle.schur.specs.System.{maxBlocks, newSystem, isZero, isWeak, raised, reducedHessian, reducedGradient, pointReduction, notEliminated, eliminated, elimination, takenWith, taken, add}
 use Rattle.schur.specs.Calls.{Inputs, made, Call, atDamping, atRefused, added, results, after, afterBlocks, Tally, factors, smallRcond, room, takenIn, tally, refusals, blocksIn, every, those}
 use Rattle.linearization.proofs.Costs.{Costs, made-costs}
 use Rattle.schur.specs.Claim.{CallByCall, final, SameEquations, Further, Claim}
@@ -59,16 +59,16 @@ module _ (d : Float) (good : T (goodDamping d)) where
   unfolding loneFactor smallRcond
   same-rcond b e = rw (is-true (goodDamping d) good, same-factor b ∙ e) refl
 
-  taken-factored : (s : ReducedSystem) (b : LocalLinearization) → factors d b ≡ true → taken s b d ≡ takenFactored s b d (inverse b)
-  unfolding taken
+  taken-factored : (s : ReducedSystem) (b : LocalLinearization) → factors d b ≡ true → taken s b d ≡ takenWith s b (eliminated s b d (inverse b))
+  unfolding taken elimination
   taken-factored s b e = rw (same-factor b ∙ e) refl
 
-  taken-refused : (s : ReducedSystem) (b : LocalLinearization) → factors d b ≡ false → taken s b d ≡ takenRefused s b d
-  unfolding taken
+  taken-refused : (s : ReducedSystem) (b : LocalLinearization) → factors d b ≡ false → taken s b d ≡ takenWith s b (notEliminated s d)
+  unfolding taken elimination
   taken-refused s b e = rw (same-factor b ∙ e) refl
 
-  split : (s : ReducedSystem) (b : LocalLinearization) (P : ReducedSystem → Type 0) → (factors d b ≡ true → P (takenFactored s b d (inverse b)))
-      → (factors d b ≡ false → P (takenRefused s b d)) → P (taken s b d)
+  split : (s : ReducedSystem) (b : LocalLinearization) (P : ReducedSystem → Type 0) → (factors d b ≡ true → P (takenWith s b (eliminated s b d (inverse b))))
+      → (factors d b ≡ false → P (takenWith s b (notEliminated s d))) → P (taken s b d)
   split s b P f g = by (factors d b) refl
     where
       by : (x : Bool) → factors d b ≡ x → P (taken s b d)
@@ -77,23 +77,23 @@ module _ (d : Float) (good : T (goodDamping d)) where
 
   module _ (s : ReducedSystem) (b : LocalLinearization) where
     count-taken : taken s b d .«block_count» ≡ suc (s .«block_count»)
-    unfolding takenFactored takenRefused takenWith
+    unfolding eliminated notEliminated takenWith
     count-taken = split s b (λ t. t .«block_count» ≡ suc (s .«block_count»)) (λ e. refl) (λ e. refl)
 
     cost-taken : taken s b d .cost ≡ s .cost ⊕ b .cost
-    unfolding takenFactored takenRefused takenWith
+    unfolding eliminated notEliminated takenWith
     cost-taken = split s b (λ t. t .cost ≡ s .cost ⊕ b .cost) (λ e. refl) (λ e. refl)
 
     squared-taken : taken s b d .«squared_residual» ≡ s .«squared_residual» ⊕ b .«squared_residual»
-    unfolding takenFactored takenRefused takenWith
+    unfolding eliminated notEliminated takenWith
     squared-taken = split s b (λ t. t .«squared_residual» ≡ s .«squared_residual» ⊕ b .«squared_residual») (λ e. refl) (λ e. refl)
 
     valid-taken : taken s b d .valid ≡ (s .valid && factors d b)
-    unfolding takenFactored takenRefused takenWith
+    unfolding eliminated notEliminated takenWith
     valid-taken = split s b (λ t. t .valid ≡ (s .valid && factors d b)) (λ e. rw e (sym (and-true (s .valid)))) (λ e. rw e (sym (and-false (s .valid))))
 
     weak-taken : taken s b d .«weak_point_count» ≡ raised (isZero d && (not (factors d b) || smallRcond d b)) (s .«weak_point_count»)
-    unfolding takenFactored takenRefused takenWith
+    unfolding eliminated notEliminated takenWith
     weak-taken =
         split s b (λ t. t .«weak_point_count» ≡ raised (isZero d && (not (factors d b) || smallRcond d b)) (s .«weak_point_count»))
         (λ e. rw (e, same-rcond b e) (both (isZero d) (smallRcond d b)))
@@ -114,7 +114,7 @@ module _ (d : Float) (good : T (goodDamping d)) where
   -- the reduced equations see a block that factors, and no other
   module _ (s t : ReducedSystem) (b : LocalLinearization) (same : SameEquations s t) where
     equations-factored : factors d b ≡ true → SameEquations (taken s b d) (taken t b d)
-    unfolding takenFactored takenWith
+    unfolding eliminated takenWith
     equations-factored e = rw (taken-factored s b e, taken-factored t b e) (record {
       hessian = ap (λ h. reducedHessian h (inverse b) b) (same .hessian);
       gradient = ap (λ h. reducedGradient h (inverse b) b) (same .gradient);
@@ -122,7 +122,7 @@ module _ (d : Float) (good : T (goodDamping d)) where
     })
 
     equations-refused : factors d b ≡ false → SameEquations (taken s b d) t
-    unfolding takenRefused takenWith
+    unfolding notEliminated takenWith
     equations-refused e = rw (taken-refused s b e) (record { hessian = same .hessian; gradient = same .gradient; reduction = same .reduction })
 
   -- ---- what further calls never do
@@ -158,7 +158,7 @@ module _ (d : Float) (good : T (goodDamping d)) where
   module _ (s : ReducedSystem) (b : LocalLinearization) (k : Sound s) (cost : T (nonneg (b .cost))) (squared : T (nonneg (b .«squared_residual»))) where
     -- the smallest rcond stays a number not below zero, and does not rise
     rcond-taken : T (nonneg (taken s b d .«minimum_point_rcond»)) × T (le (taken s b d .«minimum_point_rcond») (s .«minimum_point_rcond»))
-    unfolding takenFactored takenRefused takenWith
+    unfolding eliminated notEliminated takenWith
     rcond-taken =
         split s b (λ t. T (nonneg (t .«minimum_point_rcond»)) × T (le (t .«minimum_point_rcond») (s .«minimum_point_rcond»)))
         (λ e. by (isZero d) (min m (reciprocalConditionNumber (inverse b) (b .«point_hessian»)))

@@ -18,6 +18,7 @@ use Rattle.point_block.specs.Lone.{factor, goodDamping}
 use Rattle.linearization.specs.declared.linearize.LocalLinearization.{LocalLinearization}
 use Rattle.schur.specs.declared.system.ReducedSystem.{ReducedSystem}
 use Rattle.schur.specs.declared.system.Added.{Added}
+use Rattle.schur.specs.declared.system.Eliminated.{Eliminated}
 
 -- the most blocks that a system takes in
 abbrev pub maxBlocks : ℕ
@@ -104,42 +105,52 @@ isWeak inverse b = le (reciprocalConditionNumber inverse (b .«point_hessian»))
 abbrev pub raised : Bool → ℕ → ℕ
 raised b n = cond b (suc n) n
 
--- The system with the block's costs, pose terms and gradient norm taken in, as every block is, and with what elimination changes handed in.
-unfoldable pub takenWith : ReducedSystem → LocalLinearization → List Float → List Float → Float → ℕ → Float → Bool → ReducedSystem
-takenWith s b hessian gradient reduction weak rcond valid = record {
-  hessian = hessian;
-  gradient = gradient;
+-- a block that does not factor clears the flag and, at damping zero only, raises the weak count and sets the smallest rcond to 0
+unfoldable pub notEliminated : ReducedSystem → Float → Eliminated
+notEliminated s damping = record {
+  hessian = s .hessian;
+  gradient = s .gradient;
+  «point_model_reduction» = s .«point_model_reduction»;
+  «weak_point_count» = raised (isZero damping) (s .«weak_point_count»);
+  «minimum_point_rcond» = cond (isZero damping) zero (s .«minimum_point_rcond»);
+  valid = false;
+}
+
+-- a block that factors, by its packed inverse
+unfoldable pub eliminated : ReducedSystem → LocalLinearization → Float → List Float → Eliminated
+eliminated s b damping inverse = record {
+  hessian = reducedHessian (s .hessian) inverse b;
+  gradient = reducedGradient (s .gradient) inverse b;
+  «point_model_reduction» = pointReduction (s .«point_model_reduction») inverse b;
+  «weak_point_count» = cond (isZero damping) (raised (isWeak inverse b) (s .«weak_point_count»)) (s .«weak_point_count»);
+  «minimum_point_rcond» = cond (isZero damping) (min (s .«minimum_point_rcond») (reciprocalConditionNumber inverse (b .«point_hessian»))) (s .«minimum_point_rcond»);
+  valid = s .valid;
+}
+
+unfoldable pub elimination : ReducedSystem → LocalLinearization → Float → Eliminated
+elimination s b damping =
+    let f = factor (b .«point_hessian») damping in
+    cond (isNone (f .refusal)) (eliminated s b damping (f .inverse)) (notEliminated s damping)
+
+-- The system with the block's costs, pose terms and gradient norm taken in, as every block is, and with what elimination changes.
+unfoldable pub takenWith : ReducedSystem → LocalLinearization → Eliminated → ReducedSystem
+takenWith s b e = record {
+  hessian = e .hessian;
+  gradient = e .gradient;
   cost = s .cost ⊕ b .cost;
   «squared_residual» = s .«squared_residual» ⊕ b .«squared_residual»;
   «full_pose_gradient» = tabulate 5 (λ i. s .«full_pose_gradient» ! i ⊕ b .«pose_gradient» ! i);
   «pose_diagonal» = tabulate 5 (λ i. s .«pose_diagonal» ! i ⊕ b .«pose_hessian» ! (6 * i));
-  «point_model_reduction» = reduction;
+  «point_model_reduction» = e .«point_model_reduction»;
   «scaled_point_gradient_inf_norm» = max (s .«scaled_point_gradient_inf_norm») (pointGradientNorm b);
-  «weak_point_count» = weak;
-  «minimum_point_rcond» = rcond;
-  valid = valid;
+  «weak_point_count» = e .«weak_point_count»;
+  «minimum_point_rcond» = e .«minimum_point_rcond»;
+  valid = e .valid;
   «block_count» = suc (s .«block_count»);
 }
 
--- a block that does not factor clears the flag and, at damping zero only, raises the weak count and sets the smallest rcond to 0
-unfoldable pub takenRefused : ReducedSystem → LocalLinearization → Float → ReducedSystem
-takenRefused s b damping =
-    takenWith s b (s .hessian) (s .gradient) (s .«point_model_reduction») (raised (isZero damping) (s .«weak_point_count»))
-    (cond (isZero damping) zero (s .«minimum_point_rcond»))
-    false
-
--- a block that factors, by its packed inverse
-unfoldable pub takenFactored : ReducedSystem → LocalLinearization → Float → List Float → ReducedSystem
-takenFactored s b damping inverse =
-    takenWith s b (reducedHessian (s .hessian) inverse b) (reducedGradient (s .gradient) inverse b) (pointReduction (s .«point_model_reduction») inverse b)
-    (cond (isZero damping) (raised (isWeak inverse b) (s .«weak_point_count»)) (s .«weak_point_count»))
-    (cond (isZero damping) (min (s .«minimum_point_rcond») (reciprocalConditionNumber inverse (b .«point_hessian»))) (s .«minimum_point_rcond»))
-    (s .valid)
-
 unfoldable pub taken : ReducedSystem → LocalLinearization → Float → ReducedSystem
-taken s b damping =
-    let f = factor (b .«point_hessian») damping in
-    cond (isNone (f .refusal)) (takenFactored s b damping (f .inverse)) (takenRefused s b damping)
+taken s b damping = takenWith s b (elimination s b damping)
 
 -- `add` tests rows 3, 12, 13; refused, it hands the system back unchanged
 unfoldable pub add : ReducedSystem → LocalLinearization → Float → Added

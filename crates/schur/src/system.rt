@@ -33,6 +33,16 @@ pub struct ReducedSystem {
     pub block_count: u16,
 }
 
+// What the elimination of a point changes in a system
+pub struct Eliminated {
+    pub hessian: [f64; 25],
+    pub gradient: [f64; 5],
+    pub point_model_reduction: f64,
+    pub weak_point_count: u16,
+    pub minimum_point_rcond: f64,
+    pub valid: bool,
+}
+
 // A system after a call of `add`, with that call's refusal
 pub struct Added {
     pub system: ReducedSystem,
@@ -177,79 +187,82 @@ impl ReducedSystem {
         requires { ⌜ (self .«block_count» < 65535) × (self .«weak_point_count» ≤ self .«block_count») ⌝ }
         ensures { λ r. ⌜ r ≡ System.taken self local damping ⌝ }
     {
+        let change = self.elimination(local, damping);
+        self.taken_with(local, change)
+    }
+
+    fn elimination(self, local: LocalLinearization, damping: f64) -> Eliminated
+        requires { ⌜ (self .«block_count» < 65535) × (self .«weak_point_count» ≤ self .«block_count») ⌝ }
+        ensures { λ r. ⌜ r ≡ System.elimination self local damping ⌝ }
+    {
         let matrix = local.point_hessian;
         let factor = PointBlockFactor::factor(matrix, damping);
         let refusal = factor.refusal;
         if refusal.is_none() {
-            self.taken_factored(local, damping, factor)
+            self.eliminated(local, damping, factor)
         } else {
-            self.taken_refused(local, damping)
+            self.not_eliminated(damping)
         }
     }
 
     // A block that factors
-    fn taken_factored(
+    fn eliminated(
         self,
         local: LocalLinearization,
         damping: f64,
         factor: PointBlockFactor,
-    ) -> Self
+    ) -> Eliminated
         requires { ⌜ (self .«block_count» < 65535) × (self .«weak_point_count» ≤ self .«block_count») ⌝ }
-        ensures { λ r. ⌜ r ≡ System.takenFactored self local damping (factor .inverse) ⌝ }
+        ensures { λ r. ⌜ r ≡ System.eliminated self local damping (factor .inverse) ⌝ }
     {
         let h = self.hessian;
         let g = self.gradient;
         let hessian = eliminate::reduced_hessian(h, factor, local);
         let gradient = eliminate::reduced_gradient(g, factor, local);
         let reduction = eliminate::point_reduction(self.point_model_reduction, factor, local);
-        let weak = self.weak_point_count;
-        let smallest = self.minimum_point_rcond;
-        let valid = self.valid;
+        let mut weak = self.weak_point_count;
+        let mut smallest = self.minimum_point_rcond;
         if damping == 0.0 {
             let matrix = local.point_hessian;
             let rcond = factor.reciprocal_condition_number(matrix);
-            let count = raised(rcond <= number::EPSILON192, weak);
-            return self.taken_with(
-                local,
-                hessian,
-                gradient,
-                reduction,
-                count,
-                number::min(smallest, rcond),
-                valid,
-            );
+            weak = raised(rcond <= number::EPSILON192, weak);
+            smallest = number::min(smallest, rcond);
         }
-        self.taken_with(local, hessian, gradient, reduction, weak, smallest, valid)
+        Eliminated {
+            hessian,
+            gradient,
+            point_model_reduction: reduction,
+            weak_point_count: weak,
+            minimum_point_rcond: smallest,
+            valid: self.valid,
+        }
     }
 
     // A block that does not factor: it clears the flag, and at damping zero it is weak with an rcond of 0.
-    fn taken_refused(self, local: LocalLinearization, damping: f64) -> Self
+    fn not_eliminated(self, damping: f64) -> Eliminated
         requires { ⌜ (self .«block_count» < 65535) × (self .«weak_point_count» ≤ self .«block_count») ⌝ }
-        ensures { λ r. ⌜ r ≡ System.takenRefused self local damping ⌝ }
+        ensures { λ r. ⌜ r ≡ System.notEliminated self damping ⌝ }
     {
         let hessian = self.hessian;
         let gradient = self.gradient;
-        let reduction = self.point_model_reduction;
         let at_zero = damping == 0.0;
-        let weak = raised(at_zero, self.weak_point_count);
-        let rcond = smallest_rcond(at_zero, self.minimum_point_rcond);
-        self.taken_with(local, hessian, gradient, reduction, weak, rcond, false)
+        Eliminated {
+            hessian,
+            gradient,
+            point_model_reduction: self.point_model_reduction,
+            weak_point_count: raised(at_zero, self.weak_point_count),
+            minimum_point_rcond: smallest_rcond(at_zero, self.minimum_point_rcond),
+            valid: false,
+        }
     }
 
     // Takes in what every block brings, beside what elimination changes.
-    fn taken_with(
-        self,
-        local: LocalLinearization,
-        hessian: [f64; 25],
-        gradient: [f64; 5],
-        reduction: f64,
-        weak: u16,
-        rcond: f64,
-        valid: bool,
-    ) -> Self
+    fn taken_with(self, local: LocalLinearization, change: Eliminated) -> Self
         requires { ⌜ self .«block_count» < 65535 ⌝ }
-        ensures { λ r. ⌜ r ≡ System.takenWith self local hessian gradient reduction weak rcond valid ⌝ }
+        ensures { λ r. ⌜ r ≡ System.takenWith self local change ⌝ }
     {
+        let hessian = change.hessian;
+        let gradient = change.gradient;
         let g = self.full_pose_gradient;
         let d = self.pose_diagonal;
         let x = local.pose_gradient;
@@ -273,14 +286,14 @@ impl ReducedSystem {
                 d[3] + h[18],
                 d[4] + h[24],
             ],
-            point_model_reduction: reduction,
+            point_model_reduction: change.point_model_reduction,
             scaled_point_gradient_inf_norm: number::max(
                 self.scaled_point_gradient_inf_norm,
                 gradient_norm::point_gradient_norm(local),
             ),
-            weak_point_count: weak,
-            minimum_point_rcond: rcond,
-            valid,
+            weak_point_count: change.weak_point_count,
+            minimum_point_rcond: change.minimum_point_rcond,
+            valid: change.valid,
             block_count: self.block_count + 1,
         }
     }

@@ -1,18 +1,14 @@
 -- `schur::system::ReducedSystem::taken` meets its contract. Assumes nothing.
-use Rattle.schur.proofs.Adding.{takes-factored, takes-refused}
+use Rattle.schur.specs.System.{taken}
+use mathlib.Core.Path.{refl}
+use Prim.Native.Nat.{_-_}
 use borrow.Author.Needs.{needs}
 use Rattle.schur.proofs.system.ReducedSystem.taken.Statement.{statement}
 use Rattle.schur.proofs.system.ReducedSystem.taken.Tie as tie
 
 returns : tie.Need-returns
-returns c =
-    let b = c .before .before in
-    takes-factored _ _ _ _ _ (b .before .before .factor .ensures) (b .is-none .ensures) _ (c .before .if1 .taken) (c .taken-factored .ensures)
-
-returns-2 : tie.Need-returns-2
-returns-2 c =
-    let b = c .before .before in
-    takes-refused _ _ _ _ _ (b .before .before .factor .ensures) (b .is-none .ensures) _ (c .before .if1 .left) (c .taken-refused .ensures)
+unfolding taken
+returns c = rw (c .taken-with .ensures, c .before .elimination .ensures) refl
 
 pub taken-spec : {M : Type 1} → statement M
 taken-spec =
@@ -20,7 +16,4 @@ taken-spec =
     (tie.spec
     (λ c κs. search needs)
     (λ c κs. search needs)
-    (λ c κs. search needs)
-    (λ c κs. search needs)
-    returns
-    returns-2)
+    returns)

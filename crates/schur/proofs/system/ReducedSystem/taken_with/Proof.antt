@@ -8,7 +8,7 @@ use Rattle.schur.proofs.system.ReducedSystem.taken_with.Tie as tie
 returns : tie.Need-returns
 returns c =
     let m = c .before in
-    takes-with _ _ _ _ _ _ _ _ _ _ (m .before .point-gradient-norm .ensures) (m .max .ensures)
+    takes-with _ _ _ _ _ (m .before .point-gradient-norm .ensures) (m .max .ensures)
 
 pub taken-with-spec : {M : Type 1} → statement M
 taken-with-spec =
