@@ -68,30 +68,61 @@ fn nearest_root(d: u64) -> u64
     }
 }
 
-// The whole part of the root of d. A mean of a guess and of what it leaves of d (Heron) is never
-// below the root, and the second one is too large by at most a few.
+// The whole part of the root of d. The mean of a guess and of what it leaves of d (Heron) is never
+// below the root, and this one is too large by at most one.
 fn whole_root(d: u64) -> u64
     requires { ⌜ (2 ^ 52 ≤ d) × (d < 2 ^ 54) ⌝ }
     ensures { λ r. ⌜ WholeRoot d r ⌝ }
 {
     let guess = first_guess(d);
-    let mean = (guess + d / guess) / 2;
-    let mut root = (mean + d / mean) / 2;
+    let mut root = (guess + d / guess) / 2;
     while d < root * root {
         root -= 1;
     }
     root
 }
 
-// A line for each power of two, within one part in 120 of the root of d.
+// A parabola over each 2 ^ 50 numbers, within one part in 2 ^ 15 of the root of d.
 fn first_guess(d: u64) -> u64
     requires { ⌜ (2 ^ 52 ≤ d) × (d < 2 ^ 54) ⌝ }
     ensures { λ r. ⌜ (2 ^ 25 ≤ r) × (r < 2 ^ 28) ⌝ }
 {
-    let x = d / 0x400_0000;
-    if d < 0x20_0000_0000_0000 {
-        (214 * x + 302 * 0x400_0000) / 512
-    } else {
-        (151 * x + 427 * 0x400_0000) / 512
+    let p = parabola_from(d / 0x4_0000_0000_0000);
+    let t = d % 0x4_0000_0000_0000 / 0x100_0000;
+    let slope = p.slope - p.bend * t / 0x400_0000;
+    p.start + slope * t / 0x400_0000
+}
+
+// What a guess begins with, how it rises over the step, and by how much less towards its end
+struct Parabola {
+    start: u64,
+    slope: u64,
+    bend: u64,
+}
+
+// Through the root at three points of the numbers from step * 2 ^ 50 on. Any numbers within these
+// bounds would do: how near the guess is only decides how long the search after it lasts.
+fn parabola_from(step: u64) -> Parabola
+    ensures { λ r. ⌜ (2 ^ 26 ≤ r .start) × (r .start < 2 ^ 27) × (r .bend ≤ r .slope) × (r .slope < 2 ^ 23) ⌝ }
+{
+    match step {
+        4 => through(67_110_511, 8_358_705, 440_658),
+        5 => through(75_030_973, 7_485_193, 325_806),
+        6 => through(82_191_878, 6_837_674, 253_450),
+        7 => through(88_777_127, 6_333_148, 204_419),
+        8 => through(94_906_589, 5_925_795, 169_389),
+        9 => through(100_663_540, 5_587_999, 143_336),
+        10 => through(106_108_620, 5_302_004, 123_341),
+        11 => through(111_287_611, 5_055_807, 107_598),
+        12 => through(116_236_084, 4_840_967, 94_942),
+        13 => through(120_982_325, 4_651_353, 84_586),
+        14 => through(125_549_272, 4_482_389, 75_985),
+        _ => through(129_955_827, 4_330_582, 68_749),
     }
+}
+
+fn through(start: u64, slope: u64, bend: u64) -> Parabola
+    ensures { λ r. ⌜ (r .start ≡ start) × (r .slope ≡ slope) × (r .bend ≡ bend) ⌝ }
+{
+    Parabola { start, slope, bend }
 }

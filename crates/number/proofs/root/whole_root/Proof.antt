@@ -7,10 +7,10 @@ use Rattle.number.proofs.root.whole_root.Statement.{statement}
 use Rattle.number.proofs.root.whole_root.Tie as tie
 
 abbrev Inv-loop : tie.InvT-loop
-Inv-loop d guess mean root₀ root = (d < (root + 1) * (root + 1)) × (root < 2 ^ 31)
+Inv-loop d guess root₀ root = (d < (root + 1) * (root + 1)) × (root < 2 ^ 31)
 
 abbrev μ-loop : tie.MeasureT-loop
-μ-loop d guess mean root₀ root = root
+μ-loop d guess root₀ root = root
 
 -- a mean of a guess within these bounds and of what it leaves
 mean-in : (d g : ℕ) → d < 2 ^ 54 → 2 ^ 24 ≤ g → g < 2 ^ 31 → (g + d / g) / 2 < 2 ^ 31
@@ -21,8 +21,7 @@ loop-holds c =
     let d = c .before .args .d in
     let g = c .first-guess .result in
     let l : 2 ^ 25 ≤ g = c .first-guess .ensures .0 in
-    let m = (g + d / g) / 2 in
-    (heron d m (omega arith), mean-in d m (c .before .pre .1) (omega arith) (mean-in d g (c .before .pre .1) (omega arith) (omega arith)))
+    (heron d g (omega arith), mean-in d g (c .before .pre .1) (omega arith) (omega arith))
 
 mul-loop : tie.Need-mul-loop Inv-loop μ-loop
 mul-loop c = record { fits = let s = square-fits (c .loop .root) (c .loop .inv .1) in omega arith }
@@ -53,13 +52,6 @@ whole-root-spec =
     (λ c κs. omega arith)
     (λ c. omega arith)
     (λ c. let q = quotient-lt (c .before .args .d) (c .first-guess .result) (c .before .pre .1) (omega arith) in omega arith)
-    (λ c. omega arith)
-    (λ c.
-    let d = c .before .args .d in
-    let g = c .first-guess .result in
-    let m = mean-in d g (c .before .pre .1) (omega arith) (omega arith) in
-    let q = quotient-lt d ((g + d / g) / 2) (c .before .pre .1) (omega arith) in
-    omega arith)
     loop-holds
     mul-loop
     sub-root
