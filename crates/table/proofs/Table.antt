@@ -1,0 +1,19 @@
+-- Every figure that document 01 marks ● is what the definitions give: antt computes each row. Assumes nothing.
+use mathlib.Core.Path.{refl}
+use lib.Ieee.{neg, add, sub, mul, div, lt, eq, le, isNan, ofBits, size, units}
+use Rattle.number.specs.Parts.{negative, isFinite, abs, magnitude}
+use Rattle.number.specs.Extrema.{max}
+use Rattle.number.specs.Root.{sqrt}
+use Rattle.refusal.specs.Refused.{isNone}
+use Rattle.projection.specs.Projection.{inFront, linearized, allFinite, notProjectable, pixelProjection}
+use Rattle.point_block.specs.Damping.{largestDiagonal, floored, dampingDiagonal, addedDiagonal, dampedMatrix}
+use Rattle.point_block.specs.Factor.{scaleOf, choleskyOf, goodPivots, inverseOf, notFactored, factorDamped}
+use Rattle.point_block.specs.Condition.{infinityNorm, inverseMatrix, reciprocalConditionNumber}
+use Rattle.point_block.specs.Lone as Lone
+use Rattle.optimizer.specs.Step.{limitPoseStep}
+use Rattle.table.specs.Table.{Every, done, _and_, table}
+
+pub every-row-holds : Every table
+unfolding neg add sub mul div lt eq le isNan ofBits size units negative isFinite abs magnitude max sqrt isNone inFront linearized allFinite notProjectable pixelProjection largestDiagonal floored dampingDiagonal addedDiagonal dampedMatrix scaleOf choleskyOf goodPivots inverseOf notFactored factorDamped infinityNorm inverseMatrix reciprocalConditionNumber Lone.factor Lone.goodDamping Lone.refused Lone.loneFactor limitPoseStep
+every-row-holds =
+    refl and refl and refl and refl and refl and refl and refl and refl and refl and refl and refl and refl and refl and refl and refl and refl and done

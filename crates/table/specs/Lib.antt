@@ -1,0 +1,2 @@
+-- Document 01, "Bench figures".
+pub mod Table
