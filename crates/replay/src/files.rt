@@ -2,7 +2,7 @@
 use crate::calls::Call;
 use crate::tally::Tally;
 
-// A file has at most 300,000 bytes: one that fills the room may go on behind it.
+// A file has at most 300,000 bytes.
 pub const ROOM: usize = 300_001;
 
 // NAME.txt, where each line has so many inputs
@@ -12,18 +12,6 @@ pub fn replay(text: &mut [u8], file: &[u8], inputs: usize, call: Call) {
     }
     let dot = file.len() - 4;
     let name = &file[0..dot];
-    let fd = os::open_read(file);
-    if fd < 0 {
-        io::write_all(1, name);
-        io::write_all(1, b" missing\n");
-        return;
-    }
-    let n = io::read_full(fd, text);
-    libc::close(fd);
-    if n == text.len() {
-        io::write_all(1, name);
-        io::write_all(1, b" too long\n");
-        return;
-    }
+    let n = stored_file::read(file, text);
     Tally::of(&text[..n], name, inputs, call).show(name);
 }
