@@ -1,5 +1,4 @@
 // The root vectors.
-ghost use Prim.Native.Nat.{_<_};
 use crate::show;
 
 // A line for each line of text: `sqrt`, the pattern that its hexadecimal digits give and the pattern of its root.
@@ -11,7 +10,7 @@ pub fn print(text: &[u8]) {
             root(b);
             b = 0;
         } else {
-            b = b % 0x1000_0000_0000_0000 * 16 + value(byte);
+            b = b % 0x1000_0000_0000_0000 * 16 + hex::value(byte);
         }
     }
 }
@@ -21,15 +20,4 @@ fn root(b: u64) {
     show::pattern(b);
     show::pattern(number::to_bits(number::sqrt(number::from_bits(b))));
     show::end();
-}
-
-// The value of a capital hexadecimal digit, and 0 of any other byte
-fn value(digit: u8) -> u64
-    ensures { λ r. ⌜ r < 16 ⌝ }
-{
-    match digit {
-        b'0'..=b'9' => (digit - b'0') as u64,
-        b'A'..=b'F' => (digit - b'A' + 10) as u64,
-        _ => 0,
-    }
 }

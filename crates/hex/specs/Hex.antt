@@ -1,8 +1,8 @@
--- A number of 64 bits as sixteen capital hexadecimal digits, in ASCII.
-use Prim.Native.Nat.{ℕ, _+_, _/_, _%_, _^_}
+-- A number of 64 bits as sixteen capital hexadecimal digits, in ASCII, and what a digit stands for.
+use Prim.Native.Nat.{ℕ, _+_, _-_, _/_, _%_, _^_}
 use mathlib.Core.Bool.{cond}
 use mathlib.Core.List.{List, [], _∷_}
-use lib.Dec.{ltb}
+use lib.Dec.{leb, ltb}
 
 -- the lowest digit of n: 0 to 9 are 48 to 57, and A to F are 65 to 70
 unfoldable pub digit : ℕ → ℕ
@@ -28,3 +28,7 @@ digits n =
     ∷ digit (n / 16)
     ∷ digit n
     ∷ []
+
+-- what a byte stands for as a digit: 0 if it is none
+unfoldable pub value : ℕ → ℕ
+value b = cond (ltb b 48) 0 (cond (leb b 57) (b - 48) (cond (ltb b 65) 0 (cond (leb b 70) (b - 65 + 10) 0)))

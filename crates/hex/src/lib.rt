@@ -1,4 +1,5 @@
-// Numbers as capital hexadecimal digits, in ASCII.
+// Numbers as capital hexadecimal digits, in ASCII, and back.
+ghost use Prim.Native.Nat.{_<_};
 ghost use mathlib.Core.Path.{_≡_};
 ghost use Rattle.hex.specs.Hex as Hex;
 
@@ -32,4 +33,16 @@ pub fn digits(n: u64) -> [u8; 16]
         digit(n / 0x10),
         digit(n),
     ]
+}
+
+// What a digit stands for, and 0 for a byte that is none
+pub fn value(digit: u8) -> u64
+    ensures { λ r. ⌜ r ≡ Hex.value digit ⌝ }
+    ensures { λ r. ⌜ r < 16 ⌝ }
+{
+    match digit {
+        b'0'..=b'9' => (digit - b'0') as u64,
+        b'A'..=b'F' => (digit - b'A' + 10) as u64,
+        _ => 0,
+    }
 }

@@ -106,20 +106,9 @@ impl Place {
         }
         let high = value % 0x1000_0000_0000_0000;
         if self.refused {
-            high * 10 + digit(byte)
+            high * 10 + hex::value(byte)
         } else {
-            high * 16 + digit(byte)
+            high * 16 + hex::value(byte)
         }
-    }
-}
-
-// The value of a capital hexadecimal digit, and 0 of any other byte
-fn digit(byte: u8) -> u64
-    ensures { λ r. ⌜ r < 16 ⌝ }
-{
-    match byte {
-        b'0'..=b'9' => (byte - b'0') as u64,
-        b'A'..=b'F' => (byte - b'A' + 10) as u64,
-        _ => 0,
     }
 }
