@@ -1,9 +1,5 @@
 // The figures of the point block's factor and of the solve.
-use crate::show;
 use point_block::PointBlockFactor;
-
-// 192ε: a block that factors with an rcond at most this is weak
-const WEAK: f64 = 4.263256414560601e-14;
 
 pub fn print() {
     diagonal(b"block (4, 1, 1)", 4.0, 1.0, 1.0, 0.0);
@@ -53,7 +49,7 @@ fn diagonal(name: &[u8], a: f64, b: f64, c: f64, damping: f64) {
     if refusal.is_none() {
         show::text(b": rcond");
         show::pattern(number::to_bits(lone.rcond));
-        if lone.rcond <= WEAK {
+        if lone.rcond <= number::EPSILON192 {
             show::text(b" weak");
         }
     } else {

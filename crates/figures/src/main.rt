@@ -4,7 +4,6 @@
 mod blocks;
 mod projections;
 mod roots;
-mod show;
 mod steps;
 mod systems;
 

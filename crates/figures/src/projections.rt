@@ -1,5 +1,4 @@
 // The figures of the projection.
-use crate::show;
 use projection::PinholeCamera;
 use projection::Projected;
 

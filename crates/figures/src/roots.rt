@@ -1,5 +1,4 @@
 // The root vectors.
-use crate::show;
 
 // A line for each line of text: `sqrt`, the pattern that its hexadecimal digits give and the pattern of its root.
 pub fn print(text: &[u8]) {

@@ -3,7 +3,6 @@
 ghost use mathlib.Core.Path.{_≡_};
 ghost use Prim.Native.Nat.{_≤_};
 ghost use lib.ListN.{length};
-use crate::show;
 use linearization::Pose;
 use optimizer::Rig;
 use optimizer::StepResult;

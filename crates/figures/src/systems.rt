@@ -1,5 +1,4 @@
 // The figures of the block maker and of the system: document 01's sample plate, and its rows.
-use crate::show;
 use linearization::Dot;
 use linearization::LocalLinearization;
 use linearization::Pose;
@@ -40,7 +39,7 @@ fn plate() {
     let last = finished.system;
     show::text(b"plate sum");
     show::patterns(&[last.cost, last.squared_residual]);
-    show::count(last.weak_point_count);
+    show::count(last.weak_point_count as u64);
     if last.is_valid() {
         show::text(b" y");
     } else {
@@ -52,7 +51,7 @@ fn plate() {
 fn point(system: ReducedSystem, index: u16, x: f64, y: f64, off: f64) -> ReducedSystem {
     let block = seen(x, y, off);
     show::text(b"plate p");
-    show::count(index);
+    show::count(index as u64);
     let matrix = block.point_hessian;
     let lone = PointBlockFactor::new(matrix, 0.0);
     let refusal = lone.refusal;
@@ -101,8 +100,8 @@ fn counted(name: &[u8], weak: u16, blocks: u16, damping: f64) {
     let next = added.system;
     show::text(name);
     show::text(b":");
-    show::count(next.weak_point_count);
-    show::count(next.block_count);
+    show::count(next.weak_point_count as u64);
+    show::count(next.block_count as u64);
     show::refused_if(added.refusal);
     show::end();
 }

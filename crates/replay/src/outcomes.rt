@@ -67,13 +67,13 @@ impl Outcome {
     pub fn show(self) {
         let refusal = self.refusal;
         if !refusal.is_none() {
-            show_refusal(refusal);
+            show::refused(refusal);
             return;
         }
         let words = self.words;
         for i in self.start..self.end {
             if i < WORDS {
-                show_word(words[i]);
+                show::pattern(words[i]);
             }
         }
     }
@@ -93,19 +93,4 @@ fn same_refusal(case: Case, refusal: Refusal) -> bool {
         && words[split + 2] == refusal.number as u64
         && words[split + 3] == refusal.view as u64
         && words[split + 4] == refusal.index as u64
-}
-
-fn show_word(word: u64) {
-    io::write_all(1, b" ");
-    let digits = hex::digits(word);
-    io::write_all(1, &digits);
-}
-
-fn show_refusal(refusal: Refusal) {
-    io::write_all(1, b" refused ");
-    io::print_decimal(1, refusal.number as u64);
-    io::write_all(1, b" ");
-    io::print_decimal(1, refusal.view as u64);
-    io::write_all(1, b" ");
-    io::print_decimal(1, refusal.index as u64);
 }

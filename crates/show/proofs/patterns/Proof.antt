@@ -1,11 +1,11 @@
--- `figures::show::patterns` is safe and ends. Assumes nothing.
+-- `show::patterns` is safe and ends. Assumes nothing.
 use mathlib.Core.Path.{_≡_}
 use Prim.Native.Nat.{_-_, _≤_}
 use native.Mathlib.Omega.{arith}
 use borrow.Author.Needs.{needs}
 use lib.ListN.{length}
-use Rattle.figures.proofs.show.patterns.Statement.{statement}
-use Rattle.figures.proofs.show.patterns.Tie as tie
+use Rattle.show.proofs.patterns.Statement.{statement}
+use Rattle.show.proofs.patterns.Tie as tie
 
 abbrev Inv-loop : tie.InvT-loop
 Inv-loop values i₀ i-end i = (i ≤ i-end) × (i-end ≡ length values)

@@ -1,4 +1,5 @@
-// Figures as text: a name, patterns as sixteen capital hexadecimal digits, refusals as three numbers.
+// What the test programs print: a name, patterns as sixteen capital hexadecimal digits, counts,
+// refusals as three numbers.
 use refusal::Refusal;
 
 // A line: a figure's name and its value's pattern
@@ -28,14 +29,17 @@ pub fn patterns(values: &[f64]) {
     }
 }
 
+pub fn count(n: u64) {
+    io::write_all(1, b" ");
+    io::print_decimal(1, n);
+}
+
 // ` refused`, number, view, index
 pub fn refused(refusal: Refusal) {
-    io::write_all(1, b" refused ");
-    io::print_decimal(1, refusal.number as u64);
-    io::write_all(1, b" ");
-    io::print_decimal(1, refusal.view as u64);
-    io::write_all(1, b" ");
-    io::print_decimal(1, refusal.index as u64);
+    io::write_all(1, b" refused");
+    count(refusal.number as u64);
+    count(refusal.view as u64);
+    count(refusal.index as u64);
 }
 
 // The same, where there is one
@@ -43,9 +47,4 @@ pub fn refused_if(refusal: Refusal) {
     if !refusal.is_none() {
         refused(refusal);
     }
-}
-
-pub fn count(n: u16) {
-    io::write_all(1, b" ");
-    io::print_decimal(1, n as u64);
 }
