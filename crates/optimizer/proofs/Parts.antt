@@ -43,9 +43,8 @@ multiple l e n h = by (eqb l (e * n)) refl
 pub fits : {x y z a b c : Bool} → x ≡ a → y ≡ b → z ≡ c → (x && y && z) ≡ (a && b && c)
 fits e f g = rw (e, f, g) refl
 
-both-hold : (x y : Bool) → (x && y) ≡ true → (x ≡ true) × (y ≡ true)
-both-hold true true e = (refl, refl)
-both-hold true false e = absurd (true≢false (sym e))
+pub both-hold : (x y : Bool) → (x && y) ≡ true → (x ≡ true) × (y ≡ true)
+both-hold true y e = (refl, e)
 both-hold false y e = absurd (true≢false (sym e))
 
 pub all-fit : (p v w n : ℕ) (x y z : Bool) → x ≡ eqb p (3 * n) → y ≡ eqb v (2 * n) → z ≡ eqb w (2 * n) → not (x && y && z) ≡ false → not (leb n 65535) ≡ false

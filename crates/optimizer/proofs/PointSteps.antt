@@ -1,6 +1,6 @@
 -- "Once the system is valid no point step is refused" (document 01, "One whole step"): the claim on lists of calls of `add` says that each block factors. Assumes nothing.
 use mathlib.Core.Path.{_≡_, refl, sym, ap, _∙_}
-use mathlib.Core.Bool.{Bool, true, false, not, _&&_, cond, true≢false}
+use mathlib.Core.Bool.{Bool, true, false, not, _&&_, cond}
 use mathlib.Core.List.{List, [], _∷_}
 use Prim.Native.Nat.{ℕ, zero, suc, _+_, _≤_, _<_}
 use native.Mathlib.Nat.{add-zero, add-suc, suc-add, zero-add}
@@ -14,8 +14,8 @@ use Rattle.number.specs.Vectors.{allFinite}
 use Rattle.refusal.specs.Refused.{none}
 use Rattle.point_block.specs.Lone.{goodDamping}
 use Rattle.point_block.proofs.Laws.{lone-factors}
-use Rattle.schur.specs.Model.{withHessian, finishDamping, isValid}
 use Rattle.linearization.specs.Linearize.{pointTerms}
+use Rattle.schur.specs.Model.{dampedHessian, withHessian, finishDamping, isValid}
 use Rattle.schur.specs.PointStep.{stepped, stepOfTerms, pointStep}
 use Rattle.schur.specs.System.{newSystem}
 use Rattle.schur.specs.Claim.{WeakCount}
@@ -25,6 +25,7 @@ use Rattle.schur.specs.declared.system.ReducedSystem.{ReducedSystem}
 use Rattle.schur.proofs.Claim.{claim}
 use Rattle.optimizer.specs.Problem.{Problem, count, dotAt, blockOf, blockAt}
 use Rattle.optimizer.specs.Step.{systemTo, reducedSystem, pointStepOf, stepAt}
+use Rattle.optimizer.proofs.Parts.{both-hold}
 
 -- ---- the problem's blocks as calls of `add`, from an index on
 
@@ -52,30 +53,23 @@ all-taken p m i (suc n) h =
     rw (lt-ltb m 65535 k) (ap (λ (l : List LocalLinearization). blockAt p i ∷ l) (all-taken p (suc m) (suc i) n (omega arith)))
 
 -- what holds of every block holds of each
-and-parts : (x y : Bool) → (x && y) ≡ true → (x ≡ true) × (y ≡ true)
-and-parts true y e = (refl, e)
-and-parts false y e = absurd (true≢false (sym e))
-
 each : (p : Problem) (good : LocalLinearization → Bool) (i n j : ℕ) → every good (blocks p i n) ≡ true → j < n → good (blockAt p (i + j)) ≡ true
 each p good i zero j e h = absurd (omega arith)
-each p good i (suc n) zero e h = ap (λ (k : ℕ). good (blockAt p k)) (add-zero i) ∙ and-parts (good (blockAt p i)) (every good (blocks p (suc i) n)) e .0
+each p good i (suc n) zero e h = ap (λ (k : ℕ). good (blockAt p k)) (add-zero i) ∙ both-hold (good (blockAt p i)) (every good (blocks p (suc i) n)) e .0
 each p good i (suc n) (suc j) e h =
     ap (λ (k : ℕ). good (blockAt p k)) (add-suc i j ∙ sym (suc-add i j))
-    ∙ each p good (suc i) n j (and-parts (good (blockAt p i)) (every good (blocks p (suc i) n)) e .1) (omega arith)
+    ∙ each p good (suc i) n j (both-hold (good (blockAt p i)) (every good (blocks p (suc i) n)) e .1) (omega arith)
 
 -- ---- a valid system, and a block that factors
 
 valid-flag : (s : ReducedSystem) → isValid s ≡ true → s .valid ≡ true
 unfolding isValid
-valid-flag s e = and-parts (s .valid) (allFinite (s .gradient)) (and-parts (s .valid && allFinite (s .gradient)) (allFinite (s .hessian)) e .0) .0
+valid-flag s e = both-hold (s .valid) (allFinite (s .gradient)) (both-hold (s .valid && allFinite (s .gradient)) (allFinite (s .hessian)) e .0) .0
 
-same-flag : (s : ReducedSystem) (d : Float) → T (goodDamping d) → finishDamping s d .system .valid ≡ s .valid
-unfolding finishDamping withHessian
-same-flag s d g = rw (is-true (goodDamping d) g) refl
-
-same-count : (s : ReducedSystem) (d : Float) → T (goodDamping d) → finishDamping s d .system .«weak_point_count» ≡ s .«weak_point_count»
-unfolding finishDamping withHessian
-same-count s d g = rw (is-true (goodDamping d) g) refl
+-- the pose damping changes the Hessian alone
+damped : (s : ReducedSystem) (d : Float) → T (goodDamping d) → finishDamping s d .system ≡ withHessian s (dampedHessian (s .hessian) (s .«pose_diagonal») d)
+unfolding finishDamping
+damped s d g = rw (is-true (goodDamping d) g) refl
 
 steps : (b : LocalLinearization) (d : Float) (s : List Float) → T (goodDamping d) → factors d b ≡ true → pointStep b d s .refusal ≡ none
 unfolding pointStep stepOfTerms pointTerms stepped factors
@@ -84,13 +78,13 @@ steps b d s g e = rw (is-true (goodDamping d) g, sym (lone-factors (b .«point_h
 -- every block of a problem that has a valid system factors
 module _ (p : Problem) (good : T (goodDamping (p .damping))) (h : count p ≤ 65535) (valid : isValid (reducedSystem p) ≡ true) where
   all-factor : every (factors (p .damping)) (blocks p 0 (count p)) ≡ true
-  unfolding reducedSystem systemTo
+  unfolding reducedSystem systemTo withHessian
   all-factor =
       ap (λ (l : List LocalLinearization). every (factors (p .damping)) l) (sym (all-taken p 0 0 (count p) (omega arith)))
       ∙ sym (claim (p .damping) good (calls p 0 (count p)) .flag)
       ∙ ap (λ (t : ReducedSystem). t .valid) (after-calls p 0 (count p))
       ∙ ap (λ (k : ℕ). systemTo p k .valid) (zero-add (count p))
-      ∙ sym (same-flag (systemTo p (count p)) (p .damping) good)
+      ∙ ap (λ (t : ReducedSystem). t .valid) (sym (damped (systemTo p (count p)) (p .damping) good))
       ∙ valid-flag (reducedSystem p) valid
 
   pub no-step-refused : (i : ℕ) → i < count p → (s : List Float) → stepAt p s i .refusal ≡ none
@@ -117,8 +111,8 @@ apart f s (b ∷ bs) = by (f b) (s b) (apart f s bs)
 
 module _ (p : Problem) (good : T (goodDamping (p .damping))) (h : count p ≤ 65535) where
   same-weak : reducedSystem p .«weak_point_count» ≡ systemTo p (count p) .«weak_point_count»
-  unfolding reducedSystem
-  same-weak = same-count (systemTo p (count p)) (p .damping) good
+  unfolding reducedSystem withHessian
+  same-weak = ap (λ (t : ReducedSystem). t .«weak_point_count») (damped (systemTo p (count p)) (p .damping) good)
 
   weak-of-calls : (n : ℕ) → n ≡ systemTo p (count p) .«weak_point_count» → n ≤ length (blocksIn 0 (calls p 0 (count p)))
   unfolding systemTo
@@ -151,17 +145,12 @@ number nan y h = absurd h
 number (inf s) y h = refl
 number (fin s m e) y h = refl
 
-same-costs : (s : ReducedSystem) (d : Float) → T (goodDamping d)
-    → (finishDamping s d .system .cost ≡ s .cost) × (finishDamping s d .system .«squared_residual» ≡ s .«squared_residual»)
-unfolding finishDamping withHessian
-same-costs s d g = rw (is-true (goodDamping d) g) (refl, refl)
-
 pub costs-are-numbers : (p : Problem) → T (goodDamping (p .damping)) → (isNan (reducedSystem p .cost) ≡ false) × (isNan (reducedSystem p .«squared_residual») ≡ false)
-unfolding reducedSystem systemTo
+unfolding reducedSystem systemTo withHessian
 costs-are-numbers p good =
     let f = claim (p .damping) good (calls p 0 (count p)) .further [] in
     let e = after-calls p 0 (count p) ∙ ap (λ (k : ℕ). systemTo p k) (zero-add (count p)) in
-    let s = same-costs (systemTo p (count p)) (p .damping) good in (
-      ap isNan (s .0) ∙ ap (λ (t : ReducedSystem). isNan (t .cost)) (sym e) ∙ number _ _ (f .cost),
-      ap isNan (s .1) ∙ ap (λ (t : ReducedSystem). isNan (t .«squared_residual»)) (sym e) ∙ number _ _ (f .squared),
+    let s = damped (systemTo p (count p)) (p .damping) good in (
+      ap (λ (t : ReducedSystem). isNan (t .cost)) s ∙ ap (λ (t : ReducedSystem). isNan (t .cost)) (sym e) ∙ number _ _ (f .cost),
+      ap (λ (t : ReducedSystem). isNan (t .«squared_residual»)) s ∙ ap (λ (t : ReducedSystem). isNan (t .«squared_residual»)) (sym e) ∙ number _ _ (f .squared),
     )
