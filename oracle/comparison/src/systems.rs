@@ -1,9 +1,23 @@
-//! A system between its flat form and the oracle's.
+//! A system between its flat form and the oracle's, and calls that take one
+//! alone.
 
+use oracle::generate::Source;
 use oracle::schur::System;
 
-use crate::function::Answer;
+use crate::function::{Answer, Argument, counts, lent};
 use crate::input::Input;
+use crate::inputs;
+
+/// The arguments of a call that is lent a system and writes its answer.
+pub const fn asked(out: Argument) -> [Argument; 3] {
+    [lent("system", System::NUMBERS), counts("counts", 3), out]
+}
+
+/// A system of any kind, and nothing else.
+pub fn generated(source: &mut Source) -> Input {
+    let (numbers, counts) = inputs::system(source);
+    Input::of(&[&numbers]).with_counts(&counts)
+}
 
 /// The system that the first two arguments hold. The original does not count
 /// its blocks.

@@ -2,20 +2,15 @@
 
 use pixel_step::slices;
 
-use crate::function::{Answer, Function, count_room, counts, lent};
-use crate::input::Input;
-use crate::inputs;
+use crate::function::{Answer, Function, count_room};
 use crate::systems;
 
 pub const FUNCTION: Function = Function {
     name: "system_is_valid",
-    arguments: &[lent("system", 45), counts("counts", 3), count_room(1)],
+    arguments: &systems::asked(count_room(1)),
     rows: &[],
     walk: None,
-    generate: |source| {
-        let (numbers, counts) = inputs::system(source);
-        Input::of(&[&numbers]).with_counts(&counts)
-    },
+    generate: systems::generated,
     port: |lent, rooms| {
         slices::system_is_valid(lent.numbers(0), lent.counts(1), rooms.counts[0])
     },

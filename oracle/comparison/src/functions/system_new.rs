@@ -4,8 +4,6 @@ use oracle::schur::System;
 use pixel_step::slices;
 
 use crate::function::{Function, count_state, state};
-use crate::input::Input;
-use crate::inputs;
 use crate::systems;
 
 pub const FUNCTION: Function = Function {
@@ -13,10 +11,7 @@ pub const FUNCTION: Function = Function {
     arguments: &[state("system", 45), count_state("counts", 3)],
     rows: &[],
     walk: None,
-    generate: |source| {
-        let (numbers, counts) = inputs::system(source);
-        Input::of(&[&numbers]).with_counts(&counts)
-    },
+    generate: systems::generated,
     port: |_, rooms| slices::system_new(rooms.numbers[0], rooms.counts[0]),
     oracle: |_| systems::answer(&System::new(), 0),
     plain: None,
