@@ -11,19 +11,19 @@ use Rattle.refusal.specs.Rows as Rows
 use Rattle.refusal.specs.Refused.{at, of, isNone}
 use Rattle.refusal.specs.First.{unless, first}
 use Rattle.refusal.proofs.Scans.{row-refuses, after-none, held, all-none}
-use Rattle.record.specs.Form.{byte, maxRecord, pointAt, isWhole, fieldAt, pointFields, refused, Formed, camera1At, camera2At, poseAt, basisAt, dampingAt}
+use Rattle.record.specs.Form.{byte, maxRecord, pointAt, isWhole, fieldRefused, pointFields, refused, Formed, camera1At, camera2At, poseAt, basisAt, dampingAt}
 
-module _ (r : List ℕ) (start tag size : ℕ) where
-  pub too-short : not (leb (start + 3 + size) (length r)) ≡ true → false ≡ isWhole r start tag size
+module _ (r : List ℕ) (tag size start : ℕ) where
+  pub too-short : not (leb (start + 3 + size) (length r)) ≡ true → false ≡ isWhole r tag size start
   unfolding isWhole
   too-short t = rw (not-true (leb (start + 3 + size) (length r)) t) refl
 
   pub whole-test : (b low high : ℕ) → low ≡ byte r (start + 1) → high ≡ byte r (start + 2) → b ≡ byte r start → not (leb (start + 3 + size) (length r)) ≡ false
-      → (eqb b tag && eqb (low + 256 * high) size) ≡ isWhole r start tag size
+      → (eqb b tag && eqb (low + 256 * high) size) ≡ isWhole r tag size start
   unfolding isWhole
   whole-test b low high e f g t = rw (not-false (leb (start + 3 + size) (length r)) t, e, f, g) refl
 
-  whole-fits : isWhole r start tag size ≡ true → start + 3 + size ≤ length r
+  whole-fits : isWhole r tag size start ≡ true → start + 3 + size ≤ length r
   unfolding isWhole
   whole-fits e = leb-true (start + 3 + size) (length r) (by (leb (start + 3 + size) (length r)) (eqb (byte r start) tag) (eqb (byte r (start + 1) + 256 * byte r (start + 2)) size) e)
     where
@@ -31,25 +31,25 @@ module _ (r : List ℕ) (start tag size : ℕ) where
       by true y z e = refl
       by false y z e = absurd (true≢false (sym e))
 
-  field-fits : isNone (fieldAt r tag size start) ≡ true → start + 3 + size ≤ length r
-  field-fits e = whole-fits (held (isWhole r start tag size) (at Rows.recordForm 0 start) (row-refuses Rows.recordForm 0 start refl) e)
+  field-fits : isNone (fieldRefused r tag size start) ≡ true → start + 3 + size ≤ length r
+  field-fits e = whole-fits (held (isWhole r tag size start) (at Rows.recordForm 0 start) (row-refuses Rows.recordForm 0 start refl) e)
 
 -- what rows 14 and 15 leave
 pub formed : (r : List ℕ) → isNone (refused r) ≡ true → Formed r
 unfolding refused
 formed r e =
     let long = after-none (unless (leb (length r) maxRecord) (of Rows.recordTooLong)) _ e in
-    let c1 = after-none (fieldAt r 1 40 camera1At) _ (long .1) in
-    let c2 = after-none (fieldAt r 2 40 camera2At) _ (c1 .1) in
-    let p = after-none (fieldAt r 3 96 poseAt) _ (c2 .1) in
-    let b = after-none (fieldAt r 4 56 basisAt) _ (p .1) in
-    let d = after-none (fieldAt r 5 8 dampingAt) _ (b .1) in
+    let c1 = after-none (fieldRefused r 1 40 camera1At) _ (long .1) in
+    let c2 = after-none (fieldRefused r 2 40 camera2At) _ (c1 .1) in
+    let p = after-none (fieldRefused r 3 96 poseAt) _ (c2 .1) in
+    let b = after-none (fieldRefused r 4 56 basisAt) _ (p .1) in
+    let d = after-none (fieldRefused r 5 8 dampingAt) _ (b .1) in
     let l : length r ≤ maxRecord = leb-true (length r) maxRecord (held (leb (length r) maxRecord) (of Rows.recordTooLong) (row-refuses Rows.recordTooLong 0 0 refl) (long .0)) in
-    let h : 255 ≤ length r = field-fits r 244 5 8 (d .0) in
+    let h : 255 ≤ length r = field-fits r 5 8 244 (d .0) in
     (by (pointFields r) refl h (d .1), l)
   where
-    by : (n : ℕ) → n ≡ pointFields r → 255 ≤ length r → isNone (first (λ i. fieldAt r 6 64 (pointAt i)) 0 n) ≡ true → length r ≡ pointAt n
+    by : (n : ℕ) → n ≡ pointFields r → 255 ≤ length r → isNone (first (λ i. fieldRefused r 6 64 (pointAt i)) 0 n) ≡ true → length r ≡ pointAt n
     by zero q h f = omega (arith, q)
     by (suc n) q h f =
-        let k : 255 + 67 * n + 3 + 64 ≤ length r = field-fits r (pointAt n) 6 64 (all-none (λ i. fieldAt r 6 64 (pointAt i)) (suc n) n (omega arith) f) in
+        let k : 255 + 67 * n + 3 + 64 ≤ length r = field-fits r 6 64 (pointAt n) (all-none (λ i. fieldRefused r 6 64 (pointAt i)) (suc n) n (omega arith) f) in
         omega (arith, q)

@@ -42,11 +42,11 @@ pointAt i = pointsAt + 67 * i
 
 -- A field is broken if its tag or length is not the one due or it runs past the end.
 unfoldable pub isWhole : List ℕ → ℕ → ℕ → ℕ → Bool
-isWhole r start tag size = leb (start + 3 + size) (length r) && eqb (byte r start) tag && eqb (byte r (start + 1) + 256 * byte r (start + 2)) size
+isWhole r tag size start = leb (start + 3 + size) (length r) && eqb (byte r start) tag && eqb (byte r (start + 1) + 256 * byte r (start + 2)) size
 
 -- row 15: the index is the byte where the broken field begins, which is the record's length if it ends there
-abbrev pub fieldAt : List ℕ → ℕ → ℕ → ℕ → Refusal
-fieldAt r tag size start = unless (isWhole r start tag size) (at Rows.recordForm 0 start)
+abbrev pub fieldRefused : List ℕ → ℕ → ℕ → ℕ → Refusal
+fieldRefused r tag size start = unless (isWhole r tag size start) (at Rows.recordForm 0 start)
 
 -- how many point fields begin before the end
 abbrev pub pointFields : List ℕ → ℕ
@@ -57,12 +57,12 @@ unfoldable pub refused : List ℕ → Refusal
 refused r =
     firstOf (
     unless (leb (length r) maxRecord) (of Rows.recordTooLong)
-    ∷ fieldAt r 1 40 camera1At
-    ∷ fieldAt r 2 40 camera2At
-    ∷ fieldAt r 3 96 poseAt
-    ∷ fieldAt r 4 56 basisAt
-    ∷ fieldAt r 5 8 dampingAt
-    ∷ first (λ i. fieldAt r 6 64 (pointAt i)) 0 (pointFields r)
+    ∷ fieldRefused r 1 40 camera1At
+    ∷ fieldRefused r 2 40 camera2At
+    ∷ fieldRefused r 3 96 poseAt
+    ∷ fieldRefused r 4 56 basisAt
+    ∷ fieldRefused r 5 8 dampingAt
+    ∷ first (λ i. fieldRefused r 6 64 (pointAt i)) 0 (pointFields r)
     ∷ [])
 
 -- what rows 14 and 15 leave: whole point fields to the end, and not too many

@@ -68,7 +68,7 @@ refusedLine r =
 unfoldable pub linesOf : List ℕ → ReducedSystem → List ℕ
 linesOf r s = runLine (Form.pointFields r) (damping r) ++ pointLines (run r) (Form.pointFields r) ++ sumLine s
 
--- rows 14 and 15, then the checks of the run
+-- Rows 14 and 15, then the checks of the run. Of these rows 1 and 2 cannot come up: the lists are made with as many numbers as the point fields ask for, and a record within `maxRecord` has 512 points at most.
 unfoldable pub refused : List ℕ → Refusal
 refused r = orElse (Form.refused r) (Checks.refused (run r))
 

@@ -10,17 +10,17 @@ use refusal::Refusal;
 pub const MAX_RECORD: usize = 34559;
 
 // Where the fields begin
-pub const CAMERA1: usize = 0;
+pub const CAMERA1_AT: usize = 0;
 
-pub const CAMERA2: usize = 43;
+pub const CAMERA2_AT: usize = 43;
 
-pub const POSE: usize = 86;
+pub const POSE_AT: usize = 86;
 
-pub const BASIS: usize = 185;
+pub const BASIS_AT: usize = 185;
 
-pub const DAMPING: usize = 244;
+pub const DAMPING_AT: usize = 244;
 
-pub const POINTS: usize = 255;
+pub const POINTS_AT: usize = 255;
 
 // The bytes of a point's field
 pub const POINT_SIZE: usize = 67;
@@ -32,23 +32,23 @@ pub(crate) fn refused(record: &[u8]) -> Refusal
     if !(record.len() <= MAX_RECORD) {
         return Refusal::of(refusal::RECORD_TOO_LONG);
     }
-    let camera1 = field_refused(record, 1, 40, CAMERA1);
+    let camera1 = field_refused(record, 1, 40, CAMERA1_AT);
     if !camera1.is_none() {
         return camera1;
     }
-    let camera2 = field_refused(record, 2, 40, CAMERA2);
+    let camera2 = field_refused(record, 2, 40, CAMERA2_AT);
     if !camera2.is_none() {
         return camera2;
     }
-    let pose = field_refused(record, 3, 96, POSE);
+    let pose = field_refused(record, 3, 96, POSE_AT);
     if !pose.is_none() {
         return pose;
     }
-    let basis = field_refused(record, 4, 56, BASIS);
+    let basis = field_refused(record, 4, 56, BASIS_AT);
     if !basis.is_none() {
         return basis;
     }
-    let damping = field_refused(record, 5, 8, DAMPING);
+    let damping = field_refused(record, 5, 8, DAMPING_AT);
     if !damping.is_none() {
         return damping;
     }
@@ -58,10 +58,10 @@ pub(crate) fn refused(record: &[u8]) -> Refusal
 // Row 15 for each point's field
 fn points_refused(record: &[u8]) -> Refusal
     requires { ⌜ length (now «record») ≤ Form.maxRecord ⌝ }
-    ensures { λ r. ⌜ r ≡ First.first (λ i. Form.fieldAt (now («record» .entry)) 6 64 (Form.pointAt i)) 0 (Form.pointFields (now («record» .entry))) ⌝ }
+    ensures { λ r. ⌜ r ≡ First.first (λ i. Form.fieldRefused (now («record» .entry)) 6 64 (Form.pointAt i)) 0 (Form.pointFields (now («record» .entry))) ⌝ }
 {
     for i in 0..point_fields(record) {
-        let refusal = field_refused(record, 6, 64, POINTS + POINT_SIZE * i);
+        let refusal = field_refused(record, 6, 64, POINTS_AT + POINT_SIZE * i);
         if !refusal.is_none() {
             return refusal;
         }
@@ -74,16 +74,16 @@ pub(crate) fn point_fields(record: &[u8]) -> usize
     requires { ⌜ length (now «record») ≤ Form.maxRecord ⌝ }
     ensures { λ r. ⌜ r ≡ Form.pointFields (now («record» .entry)) ⌝ }
 {
-    if record.len() < POINTS {
+    if record.len() < POINTS_AT {
         return 0;
     }
-    (record.len() - POINTS + (POINT_SIZE - 1)) / POINT_SIZE
+    (record.len() - POINTS_AT + (POINT_SIZE - 1)) / POINT_SIZE
 }
 
 // Row 15 for one field
 fn field_refused(record: &[u8], tag: u8, size: usize, start: usize) -> Refusal
     requires { ⌜ (start ≤ 40000) × (size ≤ 100) ⌝ }
-    ensures { λ r. ⌜ r ≡ Form.fieldAt (now («record» .entry)) tag size start ⌝ }
+    ensures { λ r. ⌜ r ≡ Form.fieldRefused (now («record» .entry)) tag size start ⌝ }
 {
     if !is_whole(record, tag, size, start) {
         return Refusal::at(refusal::RECORD_FORM, 0, start as u32);
@@ -94,7 +94,7 @@ fn field_refused(record: &[u8], tag: u8, size: usize, start: usize) -> Refusal
 // Whether the field that begins there has this tag and this size, and ends within the record
 pub(crate) fn is_whole(record: &[u8], tag: u8, size: usize, start: usize) -> bool
     requires { ⌜ (start ≤ 40000) × (size ≤ 100) ⌝ }
-    ensures { λ r. ⌜ r ≡ Form.isWhole (now («record» .entry)) start tag size ⌝ }
+    ensures { λ r. ⌜ r ≡ Form.isWhole (now («record» .entry)) tag size start ⌝ }
 {
     if !(start + 3 + size <= record.len()) {
         return false;

@@ -12,9 +12,9 @@ use schur::ReducedSystem;
 pub(crate) fn put_run(out: &mut [u8], at: usize, n: u32, damping: f64) -> usize
     ensures { λ r. ⌜ Text.Put (Lists.runLine n damping) at (now (out .entry)) r (now (out .exit)) ⌝ }
 {
-    let number = text::put(out, at, b"run ");
-    let space = text::put_decimal(out, number, n);
-    put_bits(out, space, damping, b"\n")
+    let count_at = text::put(out, at, b"run ");
+    let bits_at = text::put_decimal(out, count_at, n);
+    put_bits(out, bits_at, damping, b"\n")
 }
 
 // A space, a number's bits, and what follows them
@@ -22,18 +22,18 @@ fn put_bits(out: &mut [u8], at: usize, x: f64, after: &[u8]) -> usize
     ensures { λ r. ⌜ Text.Put (Lists.bitsThen x (now (after .entry))) at (now (out .entry)) r (now (out .exit)) ⌝ }
 {
     let digits = hex::digits(number::to_bits(x));
-    let bits = text::put(out, at, b" ");
-    let next = text::put(out, bits, &digits);
-    text::put(out, next, after)
+    let digits_at = text::put(out, at, b" ");
+    let after_at = text::put(out, digits_at, &digits);
+    text::put(out, after_at, after)
 }
 
 // `p`, the index, the letter
 pub(crate) fn put_point(out: &mut [u8], at: usize, i: u32, letter: u8) -> usize
     ensures { λ r. ⌜ Text.Put (Lists.pointLine i letter) at (now (out .entry)) r (now (out .exit)) ⌝ }
 {
-    let index = text::put(out, at, b"p ");
-    let space = text::put_decimal(out, index, i);
-    text::put(out, space, &[b' ', letter, b'\n'])
+    let index_at = text::put(out, at, b"p ");
+    let letter_at = text::put_decimal(out, index_at, i);
+    text::put(out, letter_at, &[b' ', letter, b'\n'])
 }
 
 // `n` where the block does not factor; at damping zero `w` for an rcond of at most 192ε, else `g`; at other dampings `f`
@@ -61,13 +61,13 @@ pub(crate) fn put_sum(out: &mut [u8], at: usize, system: ReducedSystem) -> usize
 {
     let valid = system.is_valid();
     let weak = system.weak_point_count;
-    let first = text::put(out, at, b"sum");
-    let second = put_bits(out, first, system.cost, b"");
-    let third = put_bits(out, second, system.squared_residual, b" ");
-    let fourth = text::put_decimal(out, third, weak as u32);
+    let cost_at = text::put(out, at, b"sum");
+    let squared_at = put_bits(out, cost_at, system.cost, b"");
+    let weak_at = put_bits(out, squared_at, system.squared_residual, b" ");
+    let valid_at = text::put_decimal(out, weak_at, weak as u32);
     text::put(
         out,
-        fourth,
+        valid_at,
         &[b' ', validity(valid), b' ', verdict(valid, weak), b'\n'],
     )
 }
@@ -89,11 +89,11 @@ fn verdict(valid: bool, weak: u16) -> u8
 pub(crate) fn put_refused(out: &mut [u8], at: usize, refusal: Refusal) -> usize
     ensures { λ r. ⌜ Text.Put (Lists.refusedLine refusal) at (now (out .entry)) r (now (out .exit)) ⌝ }
 {
-    let number = text::put(out, at, b"refused ");
-    let a = text::put_decimal(out, number, refusal.number);
-    let view = text::put(out, a, b" ");
-    let b = text::put_decimal(out, view, refusal.view);
-    let index = text::put(out, b, b" ");
-    let c = text::put_decimal(out, index, refusal.index);
-    text::put(out, c, b"\n")
+    let number_at = text::put(out, at, b"refused ");
+    let space_at = text::put_decimal(out, number_at, refusal.number);
+    let view_at = text::put(out, space_at, b" ");
+    let space2_at = text::put_decimal(out, view_at, refusal.view);
+    let index_at = text::put(out, space2_at, b" ");
+    let end_at = text::put_decimal(out, index_at, refusal.index);
+    text::put(out, end_at, b"\n")
 }

@@ -94,7 +94,7 @@ fn reduced_in<'a>(
     run::read_column(record, 40, 2, view2);
     run::read_column(record, 56, 1, deviations);
     let rig = run::rig_of(record);
-    let damping = run::number_at(record, fields::DAMPING + 3);
+    let damping = run::number_at(record, fields::DAMPING_AT + 3);
     optimizer::reduced_system(points, view1, view2, deviations, rig, damping)
 }
 
@@ -104,10 +104,10 @@ fn put_lines(out: &mut [u8], record: &[u8], system: ReducedSystem) -> usize
     ensures { λ r. ⌜ Text.Put (Lists.linesOf (now («record» .entry)) system) 0 (now (out .entry)) r (now (out .exit)) ⌝ }
 {
     let n = fields::point_fields(record);
-    let damping = run::number_at(record, fields::DAMPING + 3);
-    let first = lines::put_run(out, 0, n as u32, damping);
-    let last = put_points(out, first, record);
-    lines::put_sum(out, last, system)
+    let damping = run::number_at(record, fields::DAMPING_AT + 3);
+    let points_at = lines::put_run(out, 0, n as u32, damping);
+    let sum_at = put_points(out, points_at, record);
+    lines::put_sum(out, sum_at, system)
 }
 
 // A line for each point
@@ -116,7 +116,7 @@ fn put_points(out: &mut [u8], start: usize, record: &[u8]) -> usize
     ensures { λ r. ⌜ Text.Put (Lists.pointLines (Run.run (now («record» .entry))) (Form.pointFields (now («record» .entry)))) start (now (out .entry)) r (now (out .exit)) ⌝ }
 {
     let rig = run::rig_of(record);
-    let damping = run::number_at(record, fields::DAMPING + 3);
+    let damping = run::number_at(record, fields::DAMPING_AT + 3);
     let mut at = start;
     for i in 0..fields::point_fields(record) {
         let letter = lines::letter(run::block_at(record, rig, i), damping);

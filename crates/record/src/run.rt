@@ -43,7 +43,7 @@ pub(crate) fn read_column(record: &[u8], first: usize, each: usize, out: &mut [f
     for j in 0..out.len() {
         out[j] = number_at(
             record,
-            fields::POINTS + 3 + first + fields::POINT_SIZE * (j / each) + 8 * (j % each),
+            fields::POINTS_AT + 3 + first + fields::POINT_SIZE * (j / each) + 8 * (j % each),
         );
     }
 }
@@ -83,20 +83,20 @@ pub(crate) fn rig_of(record: &[u8]) -> Rig
     requires { ⌜ Form.pointsAt ≤ length (now «record») ⌝ }
     ensures { λ r. ⌜ r ≡ Run.rig (now («record» .entry)) ⌝ }
 {
-    let a = three_at(record, fields::POSE + 3);
-    let b = three_at(record, fields::POSE + 27);
-    let c = three_at(record, fields::POSE + 51);
-    let u = three_at(record, fields::BASIS + 3);
-    let v = three_at(record, fields::BASIS + 27);
+    let a = three_at(record, fields::POSE_AT + 3);
+    let b = three_at(record, fields::POSE_AT + 27);
+    let c = three_at(record, fields::POSE_AT + 51);
+    let u = three_at(record, fields::BASIS_AT + 3);
+    let v = three_at(record, fields::BASIS_AT + 27);
     let pose = Pose {
         rotation: [a[0], a[1], a[2], b[0], b[1], b[2], c[0], c[1], c[2]],
-        translation: three_at(record, fields::POSE + 75),
+        translation: three_at(record, fields::POSE_AT + 75),
         basis: [u[0], u[1], u[2], v[0], v[1], v[2]],
-        baseline: number_at(record, fields::BASIS + 51),
+        baseline: number_at(record, fields::BASIS_AT + 51),
     };
     Rig {
-        camera1: camera_at(record, fields::CAMERA1),
-        camera2: camera_at(record, fields::CAMERA2),
+        camera1: camera_at(record, fields::CAMERA1_AT),
+        camera2: camera_at(record, fields::CAMERA2_AT),
         pose,
     }
 }
@@ -105,7 +105,7 @@ fn dot_at(record: &[u8], i: usize) -> Dot
     requires { ⌜ (i < Form.pointFields (now «record»)) × Form.Formed (now «record») ⌝ }
     ensures { λ r. ⌜ r ≡ Run.dotOf (now («record» .entry)) i ⌝ }
 {
-    let at = fields::POINTS + 3 + fields::POINT_SIZE * i;
+    let at = fields::POINTS_AT + 3 + fields::POINT_SIZE * i;
     Dot {
         point: three_at(record, at),
         view1: two_at(record, at + 24),

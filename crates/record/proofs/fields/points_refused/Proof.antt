@@ -4,7 +4,7 @@ use Rattle.refusal.specs.First.{first}
 use Rattle.refusal.specs.Refused.{isNone}
 use Rattle.refusal.proofs.Scans.{Scanned, begins, ends, goes-on, leaves}
 use borrow.Author.Tests.{not-true, not-false}
-use Rattle.record.specs.Form.{pointAt, fieldAt, pointFields}
+use Rattle.record.specs.Form.{pointAt, fieldRefused, pointFields}
 use Prim.Native.Nat.{_-_}
 use native.Mathlib.Omega.{arith}
 use borrow.Author.Needs.{needs}
@@ -12,7 +12,7 @@ use Rattle.record.proofs.fields.points_refused.Statement.{statement}
 use Rattle.record.proofs.fields.points_refused.Tie as tie
 
 abbrev Inv-loop : tie.InvT-loop
-Inv-loop «record» i₀ i-end i = (i-end ≡ pointFields «record») × Scanned (first (λ j. fieldAt «record» 6 64 (pointAt j)) 0 (pointFields «record»)) (λ j. fieldAt «record» 6 64 (pointAt j)) (pointFields «record») i
+Inv-loop «record» i₀ i-end i = (i-end ≡ pointFields «record») × Scanned (first (λ j. fieldRefused «record» 6 64 (pointAt j)) 0 (pointFields «record»)) (λ j. fieldRefused «record» 6 64 (pointAt j)) (pointFields «record») i
 
 abbrev μ-loop : tie.MeasureT-loop
 μ-loop «record» i₀ i-end i = i-end - i
