@@ -1,9 +1,10 @@
-// The form of a run record: a reader on the record's bytes and a place in them.
+// The form of a run record. Its fields are read by `reader`, which holds the bytes and a place and leaves the tests to `test_field`.
 ghost use mathlib.Core.Path.{_≡_};
 ghost use Prim.Native.Nat.{_≤_, _<_};
 ghost use lib.ListN.{length};
 ghost use Rattle.refusal.specs.First as First;
 ghost use Rattle.record.specs.Form as Form;
+use crate::reader;
 use refusal::Refusal;
 
 // The most bytes of a record: 512 points
@@ -32,23 +33,23 @@ pub(crate) fn refused(record: &[u8]) -> Refusal
     if !(record.len() <= MAX_RECORD) {
         return Refusal::of(refusal::RECORD_TOO_LONG);
     }
-    let camera1 = field_refused(record, 1, 40, CAMERA1_AT);
+    let camera1 = reader::field_refused(record, 1, 40, CAMERA1_AT);
     if !camera1.is_none() {
         return camera1;
     }
-    let camera2 = field_refused(record, 2, 40, CAMERA2_AT);
+    let camera2 = reader::field_refused(record, 2, 40, CAMERA2_AT);
     if !camera2.is_none() {
         return camera2;
     }
-    let pose = field_refused(record, 3, 96, POSE_AT);
+    let pose = reader::field_refused(record, 3, 96, POSE_AT);
     if !pose.is_none() {
         return pose;
     }
-    let basis = field_refused(record, 4, 56, BASIS_AT);
+    let basis = reader::field_refused(record, 4, 56, BASIS_AT);
     if !basis.is_none() {
         return basis;
     }
-    let damping = field_refused(record, 5, 8, DAMPING_AT);
+    let damping = reader::field_refused(record, 5, 8, DAMPING_AT);
     if !damping.is_none() {
         return damping;
     }
@@ -61,7 +62,7 @@ fn points_refused(record: &[u8]) -> Refusal
     ensures { λ r. ⌜ r ≡ First.first (λ i. Form.fieldRefused (now («record» .entry)) 6 64 (Form.pointAt i)) 0 (Form.pointFields (now («record» .entry))) ⌝ }
 {
     for i in 0..point_fields(record) {
-        let refusal = field_refused(record, 6, 64, POINTS_AT + POINT_SIZE * i);
+        let refusal = reader::field_refused(record, 6, 64, POINTS_AT + POINT_SIZE * i);
         if !refusal.is_none() {
             return refusal;
         }
@@ -80,8 +81,8 @@ pub(crate) fn point_fields(record: &[u8]) -> usize
     (record.len() - POINTS_AT + (POINT_SIZE - 1)) / POINT_SIZE
 }
 
-// Row 15 for one field
-fn field_refused(record: &[u8], tag: u8, size: usize, start: usize) -> Refusal
+// Row 15 for the field that begins there
+pub(crate) fn test_field(record: &[u8], tag: u8, size: usize, start: usize) -> Refusal
     requires { ⌜ (start ≤ 40000) × (size ≤ 100) ⌝ }
     ensures { λ r. ⌜ r ≡ Form.fieldRefused (now («record» .entry)) tag size start ⌝ }
 {

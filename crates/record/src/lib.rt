@@ -2,6 +2,7 @@
 mod fields;
 mod lines;
 mod list;
+mod reader;
 mod run;
 mod text;
 
