@@ -11,7 +11,7 @@ use Rattle.refusal.specs.Rows as Rows
 use Rattle.refusal.specs.Refused.{at, of, isNone}
 use Rattle.refusal.specs.First.{unless, first}
 use Rattle.refusal.proofs.Scans.{row-refuses, after-none, held, all-none}
-use Rattle.record.specs.Form.{byte, maxRecord, pointAt, isWhole, fieldRefused, pointFields, refused, Formed, camera1At, camera2At, poseAt, basisAt, dampingAt}
+use Rattle.record.specs.Form.{byte, maxRecord, pointAt, isWhole, fieldRefused, headRefused, pointFields, refused, Formed, camera1At, camera2At, poseAt, basisAt, dampingAt}
 
 module _ (r : List ℕ) (tag size start : ℕ) where
   pub too-short : not (leb (start + 3 + size) (length r)) ≡ true → false ≡ isWhole r tag size start
@@ -39,14 +39,14 @@ pub formed : (r : List ℕ) → isNone (refused r) ≡ true → Formed r
 unfolding refused
 formed r e =
     let long = after-none (unless (leb (length r) maxRecord) (of Rows.recordTooLong)) _ e in
-    let c1 = after-none (fieldRefused r 1 40 camera1At) _ (long .1) in
+    let head = after-none (headRefused r) _ (long .1) in
+    let c1 = after-none (fieldRefused r 1 40 camera1At) _ (head .0) in
     let c2 = after-none (fieldRefused r 2 40 camera2At) _ (c1 .1) in
     let p = after-none (fieldRefused r 3 96 poseAt) _ (c2 .1) in
     let b = after-none (fieldRefused r 4 56 basisAt) _ (p .1) in
-    let d = after-none (fieldRefused r 5 8 dampingAt) _ (b .1) in
     let l : length r ≤ maxRecord = leb-true (length r) maxRecord (held (leb (length r) maxRecord) (of Rows.recordTooLong) (row-refuses Rows.recordTooLong 0 0 refl) (long .0)) in
-    let h : 255 ≤ length r = field-fits r 5 8 244 (d .0) in
-    (by (pointFields r) refl h (d .1), l)
+    let h : 255 ≤ length r = field-fits r 5 8 244 (b .1) in
+    (by (pointFields r) refl h (head .1), l)
   where
     by : (n : ℕ) → n ≡ pointFields r → 255 ≤ length r → isNone (first (λ i. fieldRefused r 6 64 (pointAt i)) 0 n) ≡ true → length r ≡ pointAt n
     by zero q h f = omega (arith, q)

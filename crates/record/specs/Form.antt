@@ -52,16 +52,23 @@ fieldRefused r tag size start = unless (isWhole r tag size start) (at Rows.recor
 abbrev pub pointFields : List ℕ → ℕ
 pointFields r = (length r - pointsAt + 66) / 67
 
+-- row 15 for the five fields before the points
+abbrev pub headRefused : List ℕ → Refusal
+headRefused r =
+    firstOf (
+    fieldRefused r 1 40 camera1At
+    ∷ fieldRefused r 2 40 camera2At
+    ∷ fieldRefused r 3 96 poseAt
+    ∷ fieldRefused r 4 56 basisAt
+    ∷ fieldRefused r 5 8 dampingAt
+    ∷ [])
+
 -- rows 14 and 15
 unfoldable pub refused : List ℕ → Refusal
 refused r =
     firstOf (
     unless (leb (length r) maxRecord) (of Rows.recordTooLong)
-    ∷ fieldRefused r 1 40 camera1At
-    ∷ fieldRefused r 2 40 camera2At
-    ∷ fieldRefused r 3 96 poseAt
-    ∷ fieldRefused r 4 56 basisAt
-    ∷ fieldRefused r 5 8 dampingAt
+    ∷ headRefused r
     ∷ first (λ i. fieldRefused r 6 64 (pointAt i)) 0 (pointFields r)
     ∷ [])
 

@@ -1,4 +1,5 @@
 // The form of a run record. Its fields are read by `reader`, which holds the bytes and a place and leaves the tests to `test_field`.
+ghost use mathlib.Core.List.{[], _∷_};
 ghost use mathlib.Core.Path.{_≡_};
 ghost use Prim.Native.Nat.{_≤_, _<_};
 ghost use lib.ListN.{length};
@@ -33,27 +34,30 @@ pub(crate) fn refused(record: &[u8]) -> Refusal
     if !(record.len() <= MAX_RECORD) {
         return Refusal::of(refusal::RECORD_TOO_LONG);
     }
-    let camera1 = reader::field_refused(record, 1, 40, CAMERA1_AT);
-    if !camera1.is_none() {
-        return camera1;
-    }
-    let camera2 = reader::field_refused(record, 2, 40, CAMERA2_AT);
-    if !camera2.is_none() {
-        return camera2;
-    }
-    let pose = reader::field_refused(record, 3, 96, POSE_AT);
-    if !pose.is_none() {
-        return pose;
-    }
-    let basis = reader::field_refused(record, 4, 56, BASIS_AT);
-    if !basis.is_none() {
-        return basis;
-    }
-    let damping = reader::field_refused(record, 5, 8, DAMPING_AT);
-    if !damping.is_none() {
-        return damping;
+    let head = reader::head_refused(record);
+    if !head.is_none() {
+        return head;
     }
     points_refused(record)
+}
+
+// The first of five
+pub(crate) fn first_of(a: Refusal, b: Refusal, c: Refusal, d: Refusal, e: Refusal) -> Refusal
+    ensures { λ r. ⌜ r ≡ First.firstOf (a ∷ b ∷ c ∷ d ∷ e ∷ []) ⌝ }
+{
+    if !a.is_none() {
+        return a;
+    }
+    if !b.is_none() {
+        return b;
+    }
+    if !c.is_none() {
+        return c;
+    }
+    if !d.is_none() {
+        return d;
+    }
+    e
 }
 
 // Row 15 for each point's field
