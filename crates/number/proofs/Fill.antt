@@ -8,7 +8,7 @@ use lib.Seq.{drop-cons, set-at, append-snoc, drop-length}
 use lib.Ieee.{Float, nan}
 use Rattle.number.specs.Vectors.{_!_, tabulate}
 
-length-tabulate : (n : ℕ) (f : ℕ → Float) → length (tabulate n f) ≡ n
+pub length-tabulate : (n : ℕ) (f : ℕ → Float) → length (tabulate n f) ≡ n
 length-tabulate zero f = refl
 length-tabulate (suc n) f = ap suc (length-tabulate n (λ i. f (suc i)))
 

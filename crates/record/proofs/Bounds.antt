@@ -10,6 +10,7 @@ use lib.Dec.{eqb, ltb, leb}
 use lib.ListN.{length, take, drop, length-append}
 use lib.Seq.{take-at}
 use lib.Ieee.{Float, binary64, toBits}
+use Rattle.number.proofs.Fill.{length-tabulate}
 use Rattle.refusal.specs.Refused.{isNone}
 use Rattle.refusal.specs.declared.Refusal.{Refusal}
 use Rattle.refusal.proofs.Scans.{after-none}
@@ -27,7 +28,7 @@ use Rattle.record.specs.Text.{space, lineFeed, digit, withoutZeros, deci
 use Rattle.record.specs.Lists.{bitsThen, runLine, letter, pointLine, pointLines, validity, verdict, sumLine, refusedLine, linesOf, refused, list, maxList, NeverNan, Wrote}
 use Rattle.record.proofs.Forms.{formed}
 use Rattle.record.proofs.Puts.{pasted-length}
-use Rattle.record.proofs.Runs.{few-points, tabulate-length}
+use Rattle.record.proofs.Runs.{few-points}
 
 -- ---- decimals
 
@@ -150,7 +151,7 @@ refused-length r =
 
 count-run : (r : List ℕ) → count (run r) ≡ Form.pointFields r
 unfolding run
-count-run r = tabulate-length (Form.pointFields r) (column r 56 1)
+count-run r = length-tabulate (Form.pointFields r) (column r 56 1)
 
 lines-length : (r : List ℕ) → isNone (refused r) ≡ true → length (linesOf r (reducedSystem (run r))) ≤ maxList
 unfolding linesOf refused

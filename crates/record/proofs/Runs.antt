@@ -8,7 +8,6 @@ use native.Mathlib.Omega.{arith}
 use mathlib.Core.Bool.{Bool, true, false}
 use borrow.Author.Tests.{ltb-true, ltb-false}
 use lib.Dec.{ltb}
-use lib.ListN.{length}
 use lib.Ieee.{Float}
 use Rattle.number.specs.Vectors.{_!_, tabulate}
 use Rattle.linearization.specs.declared.views.Dot.{Dot}
@@ -93,10 +92,6 @@ pub run-is : (r : List ℕ) (p v w d : List Float) (x : Rig) (y : Float) (lp lv 
     → problem p v w d x y ≡ run r
 unfolding run
 run-is r p v w d x y lp lv lw ld e₁ e₂ e₃ e₄ e₅ e₆ e₇ e₈ e₉ e = rw (e₁, e₂, e₃, e₄, e₅, e₆, e₇, e₈, e₉, e) refl
-
-pub tabulate-length : (n : ℕ) (f : ℕ → Float) → length (tabulate n f) ≡ n
-tabulate-length zero f = refl
-tabulate-length (suc n) f = ap suc (tabulate-length n (λ i. f (suc i)))
 
 -- a record of the right form has 512 points at most
 pub few-points : (r : List ℕ) → Formed r → pointFields r ≤ 512

@@ -2,17 +2,18 @@
 use mathlib.Core.Path.{ap, _∙_}
 use lib.ListN.{length}
 use Rattle.optimizer.specs.Step.{reduced}
-use Rattle.record.proofs.Runs.{run-is, tabulate-length}
+use Rattle.number.proofs.Fill.{length-tabulate}
+use Rattle.record.proofs.Runs.{run-is}
 use native.Mathlib.Omega.{arith}
 use borrow.Author.Needs.{needs}
 use Rattle.record.proofs.list.reduced_in.Statement.{statement}
 use Rattle.record.proofs.list.reduced_in.Tie as tie
 
 same-length : tie.Need-same-length
-same-length c = ap length (c .before .before .before .before .before .before .before .before .before .before .before .before .before .before .before .before .before .before .before .before .before .read-column .ensures) ∙ tabulate-length _ _
+same-length c = ap length (c .before .before .before .before .before .before .before .before .before .before .before .before .before .before .before .before .before .before .before .before .before .read-column .ensures) ∙ length-tabulate _ _
 
 same-length-2 : tie.Need-same-length-2
-same-length-2 c = ap length (c .before .before .before .before .before .before .before .before .before .before .before .before .before .before .before .before .before .read-column2 .ensures) ∙ tabulate-length _ _
+same-length-2 c = ap length (c .before .before .before .before .before .before .before .before .before .before .before .before .before .before .before .before .before .read-column2 .ensures) ∙ length-tabulate _ _
 
 same-length-3 : tie.Need-same-length-3
 same-length-3 c = search needs
