@@ -8,10 +8,10 @@ use borrow.Author.Tests.{not-true, not-false, leb-true}
 use lib.Dec.{eqb, leb}
 use lib.ListN.{length}
 use Rattle.refusal.specs.Rows as Rows
-use Rattle.refusal.specs.Refused.{at, of, isNone}
+use Rattle.refusal.specs.Refused.{of, isNone}
 use Rattle.refusal.specs.First.{unless, first}
 use Rattle.refusal.proofs.Scans.{row-refuses, after-none, held, all-none}
-use Rattle.record.specs.Form.{byte, maxRecord, pointAt, isWhole, fieldRefused, headRefused, pointFields, refused, Formed, camera1At, camera2At, poseAt, basisAt, dampingAt}
+use Rattle.record.specs.Form.{byte, maxRecord, pointAt, isWhole, fieldRefused, headRefused, pointFields, refused, Formed, camera1At, camera2At, poseAt, basisAt}
 
 module _ (r : List ℕ) (tag size start : ℕ) where
   pub too-short : not (leb (start + 3 + size) (length r)) ≡ true → false ≡ isWhole r tag size start
@@ -32,7 +32,7 @@ module _ (r : List ℕ) (tag size start : ℕ) where
       by false y z e = absurd (true≢false (sym e))
 
   field-fits : isNone (fieldRefused r tag size start) ≡ true → start + 3 + size ≤ length r
-  field-fits e = whole-fits (held (isWhole r tag size start) (at Rows.recordForm 0 start) (row-refuses Rows.recordForm 0 start refl) e)
+  field-fits e = whole-fits (held _ _ (row-refuses Rows.recordForm 0 _ refl) e)
 
 -- what rows 14 and 15 leave
 pub formed : (r : List ℕ) → isNone (refused r) ≡ true → Formed r

@@ -1,6 +1,6 @@
 // The list of a run record.
 ghost use mathlib.Core.Path.{_≡_};
-ghost use Prim.Native.Nat.{_≤_, _*_};
+ghost use Prim.Native.Nat.{_*_};
 ghost use lib.ListN.{length};
 ghost use Rattle.optimizer.specs.Step as Steps;
 ghost use Rattle.record.specs.Form as Form;
