@@ -34,7 +34,7 @@ use denote.Struct.Steps.{spelt}
 use denote.Struct.Laws as LL
 use denote.Triple.Statement.{Contract, Triple}
 use denote.Triple.Call.{calls-at}
-use denote.Triple.Entry.{Vals, onEntry}
+use denote.Triple.Entry.{onEntry}
 use denote.Triple.Spec.{Meets, tripleOf}
 use denote.Triple.Table.{entered, cited}
 use denote.Triple.Walked.{says, Stays, stay-ref, stay-none, walkOf, AllGo, goes-none, goes-ref, Walks, ends-at, walked, walk-meets}
