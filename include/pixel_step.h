@@ -98,12 +98,12 @@ uint64_t pixel_step_solve_positive_definite(const double *a, size_t a_length,
 /*
  * The block of a point: what it adds to the system. Rows 4, 9; row 9 has view 1 or 2.
  * rig (29): camera 1 and camera 2, 5 each; rotation, 9; translation, 3; two basis vectors, 3 each; baseline
- * dot (8): point, 3; where view 1 and view 2 saw it, 2 each; inverse deviation
+ * correspondence (8): point, 3; where view 1 and view 2 saw it, 2 each; inverse deviation
  * out (59), a block: pose Hessian, 25; cross Hessian, 15; point Hessian, 9; pose gradient, 5; point gradient, 3;
  * cost; squared residual
  */
 uint64_t pixel_step_linearize_point(const double *rig, size_t rig_length,
-                                    const double *dot, size_t dot_length,
+                                    const double *correspondence, size_t correspondence_length,
                                     double *out, size_t out_length);
 
 /* How a point moves with a step of the pose. Rows 3, 10. block (59); pose_step (5); out: step, damping norm (4) */

@@ -91,8 +91,8 @@ unsafe extern "C" {
     pub fn pixel_step_linearize_point(
         rig: *const f64,
         rig_len: usize,
-        dot: *const f64,
-        dot_len: usize,
+        correspondence: *const f64,
+        correspondence_len: usize,
         out: *mut f64,
         out_len: usize,
     ) -> u64;

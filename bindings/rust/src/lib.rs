@@ -11,7 +11,7 @@ mod system;
 pub use refusal::Refusal;
 pub use step::{Problem, Step, limit_pose_step, step};
 pub use system::{
-    Block, Dot, PointStep, Rig, System, linearize_point, point_step_with_damping_norm,
+    Block, Correspondence, PointStep, Rig, System, linearize_point, point_step_with_damping_norm,
 };
 
 /// A residual and its derivative by the point, row by row.

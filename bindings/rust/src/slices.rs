@@ -123,14 +123,14 @@ pub fn solve_positive_definite(a: &[f64], b: &[f64], out: &mut [f64]) -> u64 {
     }
 }
 
-/// `rig` 29, `dot` 8, `out` 59.
-pub fn linearize_point(rig: &[f64], dot: &[f64], out: &mut [f64]) -> u64 {
+/// `rig` 29, `correspondence` 8, `out` 59.
+pub fn linearize_point(rig: &[f64], correspondence: &[f64], out: &mut [f64]) -> u64 {
     unsafe {
         ffi::pixel_step_linearize_point(
             rig.as_ptr(),
             rig.len(),
-            dot.as_ptr(),
-            dot.len(),
+            correspondence.as_ptr(),
+            correspondence.len(),
             out.as_mut_ptr(),
             out.len(),
         )

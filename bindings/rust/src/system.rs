@@ -7,7 +7,7 @@ use crate::{Refusal, filled, slices};
 pub type Rig = [f64; 29];
 
 /// A point, where both views saw it, and its inverse deviation.
-pub type Dot = [f64; 8];
+pub type Correspondence = [f64; 8];
 
 /// What a point adds to the system.
 pub type Block = [f64; 59];
@@ -19,9 +19,9 @@ pub struct PointStep {
     pub damping_norm: f64,
 }
 
-/// The block of a dot. Row 4, and row 9 with view 1 or 2.
-pub fn linearize_point(rig: &Rig, dot: &Dot) -> Result<Block, Refusal> {
-    filled(|out| slices::linearize_point(rig, dot, out))
+/// The block of a correspondence. Row 4, and row 9 with view 1 or 2.
+pub fn linearize_point(rig: &Rig, correspondence: &Correspondence) -> Result<Block, Refusal> {
+    filled(|out| slices::linearize_point(rig, correspondence, out))
 }
 
 /// How a point moves with a step of the pose. Rows 3 and 10.

@@ -1,7 +1,7 @@
 //! The sample plate of the specification, and each refusal of the block maker,
 //! the system and the point step, through the static library.
 
-use pixel_step::{Block, Dot, Refusal, Rig, System, slices};
+use pixel_step::{Block, Correspondence, Refusal, Rig, System, slices};
 
 fn refused(number: u8, view: u8) -> Refusal {
     Refusal {
@@ -22,8 +22,8 @@ fn rig() -> Rig {
 
 /// The point (x, y, 1), seen without error but for view 1, `off` too high.
 fn block(x: f64, y: f64, off: f64) -> Block {
-    let dot = [x, y, 1.0, x, y + off, 0.5 * x, 0.5 * y, 1.0];
-    pixel_step::linearize_point(&rig(), &dot).expect("projectable")
+    let correspondence = [x, y, 1.0, x, y + off, 0.5 * x, 0.5 * y, 1.0];
+    pixel_step::linearize_point(&rig(), &correspondence).expect("projectable")
 }
 
 const PLATE: [[f64; 2]; 5] = [[0.0, 0.0], [1.0, 0.0], [-1.0, 0.0], [0.0, 1.0], [0.0, -1.0]];
@@ -56,19 +56,19 @@ fn a_valid_system() {
     assert_eq!(step.map(|step| step.damping_norm), Ok(0.0));
 }
 
-fn made(rig: &Rig, dot: &Dot) -> Result<(), Refusal> {
-    pixel_step::linearize_point(rig, dot).map(|_| ())
+fn made(rig: &Rig, correspondence: &Correspondence) -> Result<(), Refusal> {
+    pixel_step::linearize_point(rig, correspondence).map(|_| ())
 }
 
 #[test]
 fn refusals() {
-    let (mut rig, mut dot) = (rig(), [0.0, 0.0, 1.0, 0.0, 0.0, 0.0, 0.0, 0.0]);
-    assert_eq!(made(&rig, &dot), Err(refused(4, 0)));
-    dot[7] = 1.0;
+    let (mut rig, mut correspondence) = (rig(), [0.0, 0.0, 1.0, 0.0, 0.0, 0.0, 0.0, 0.0]);
+    assert_eq!(made(&rig, &correspondence), Err(refused(4, 0)));
+    correspondence[7] = 1.0;
     rig[21] = f64::NAN;
-    assert_eq!(made(&rig, &dot), Err(refused(9, 2)));
-    dot[2] = 0.0;
-    assert_eq!(made(&rig, &dot), Err(refused(9, 1)));
+    assert_eq!(made(&rig, &correspondence), Err(refused(9, 2)));
+    correspondence[2] = 0.0;
+    assert_eq!(made(&rig, &correspondence), Err(refused(9, 1)));
     let (flat, step) = (block(0.0, 0.0, 0.0), [0.0; 5]);
     let stepped = |damping| pixel_step::point_step_with_damping_norm(&flat, damping, &step);
     assert_eq!(stepped(-1.0), Err(refused(3, 0)));

@@ -1,5 +1,5 @@
 // The figures of the block maker and of the system: document 01's sample plate, and its rows.
-use linearization::Dot;
+use linearization::Correspondence;
 use linearization::LocalLinearization;
 use linearization::Pose;
 use point_block::PointBlockFactor;
@@ -82,13 +82,13 @@ fn seen(x: f64, y: f64, off: f64) -> LocalLinearization {
         basis: [1.0, 0.0, 0.0, 0.0, 1.0, 0.0],
         baseline: 1.0,
     };
-    let dot = Dot {
+    let correspondence = Correspondence {
         point: [x, y, 1.0],
         view1: [x, y + off],
         view2: [0.5 * x, 0.5 * y],
         inverse_deviation: 1.0,
     };
-    linearization::linearize_point(camera, camera, pose, dot)
+    linearization::linearize_point(camera, camera, pose, correspondence)
 }
 
 // `add` on a system with these counts: its refusal, or the counts that it leaves

@@ -2,7 +2,7 @@
 // Each line has a figure of the one, then of the other, as patterns of sixteen capital digits: the two columns have to be equal.
 ghost use mathlib.Core.Path.{_≡_};
 ghost use Rattle.schur.specs.System as System;
-use linearization::Dot;
+use linearization::Correspondence;
 use linearization::LocalLinearization;
 use linearization::Pose;
 use projection::PinholeCamera;
@@ -47,13 +47,13 @@ fn block(x: f64, y: f64, z: f64) -> LocalLinearization {
         basis: [1.0, 0.0, 0.0, 0.0, 1.0, 0.0],
         baseline: 0.25,
     };
-    let dot = Dot {
+    let correspondence = Correspondence {
         point: [x, y, z],
         view1: [320.0 + 800.0 * x / z, 240.5 + 600.0 * y / z],
         view2: [320.0 + 500.0 * x / z, 240.0 + 500.0 * y / z],
         inverse_deviation: 2.0,
     };
-    linearization::linearize_point(camera, camera, pose, dot)
+    linearization::linearize_point(camera, camera, pose, correspondence)
 }
 
 // A line: the two refusals' numbers

@@ -20,7 +20,7 @@ use Rattle.projection.specs.declared.Projected.{Projected}
 use Rattle.projection.proofs.Laws.{projection-finite}
 use Rattle.linearization.specs.declared.linearize.LocalLinearization.{LocalLinearization}
 use Rattle.linearization.specs.declared.views.Pose.{Pose}
-use Rattle.linearization.specs.declared.views.Dot.{Dot}
+use Rattle.linearization.specs.declared.views.Correspondence.{Correspondence}
 use Rattle.linearization.specs.declared.views.LinearizedViews.{LinearizedViews}
 use Rattle.linearization.specs.Loss.{norm, lossCost}
 use Rattle.linearization.specs.Views.{goodDeviation, notSeen, weightedViews, linearizeViews}
@@ -77,29 +77,29 @@ not-made-costs r = (nonneg-zero binary64, nonneg-zero binary64)
 abbrev blockOf : LinearizedViews → Float → LocalLinearization
 blockOf v w = cond (isNone (v .refusal)) (block v w) (notMade (v .refusal))
 
-pub made-costs : (camera1 camera2 : PinholeCamera) (pose : Pose) (dot : Dot) → Costs (linearizePoint camera1 camera2 pose dot)
+pub made-costs : (camera1 camera2 : PinholeCamera) (pose : Pose) (correspondence : Correspondence) → Costs (linearizePoint camera1 camera2 pose correspondence)
 unfolding linearizePoint linearizeViews weightedViews notSeen isNone
-made-costs camera1 camera2 pose dot = by (goodDeviation w) (isNone (first .refusal)) (isNone (second .refusal)) refl refl refl
+made-costs camera1 camera2 pose correspondence = by (goodDeviation w) (isNone (first .refusal)) (isNone (second .refusal)) refl refl refl
   where
     w : Float
-    w = dot .«inverse_deviation»
+    w = correspondence .«inverse_deviation»
 
     rotated : List Float
-    rotated = rotate (pose .rotation) (dot .point)
+    rotated = rotate (pose .rotation) (correspondence .point)
 
     moved : List Float
     moved = cameraPoint rotated (pose .translation)
 
     first : Projected
-    first = pixelProjection camera1 (dot .view1) (dot .point)
+    first = pixelProjection camera1 (correspondence .view1) (correspondence .point)
 
     second : Projected
-    second = pixelProjection camera2 (dot .view2) moved
+    second = pixelProjection camera2 (correspondence .view2) moved
 
     by : (g a b : Bool) → goodDeviation w ≡ g → isNone (first .refusal) ≡ a → isNone (second .refusal) ≡ b
         → Costs (blockOf (cond g (cond a (cond b (weightedViews first second rotated pose w) (notSeen (at Rows.projection 2 0))) (notSeen (at Rows.projection 1 0))) (notSeen (of Rows.inverseDeviation))) w)
     by true true true e f g =
-        block-costs first second rotated pose w (rw e tt) (projection-finite camera1 (dot .view1) (dot .point) (rw f tt)) (projection-finite camera2 (dot .view2) moved (rw g tt))
+        block-costs first second rotated pose w (rw e tt) (projection-finite camera1 (correspondence .view1) (correspondence .point) (rw f tt)) (projection-finite camera2 (correspondence .view2) moved (rw g tt))
     by true true false e f g = not-made-costs (at Rows.projection 2 0)
     by true false b e f g = not-made-costs (at Rows.projection 1 0)
     by false a b e f g = not-made-costs (of Rows.inverseDeviation)

@@ -14,46 +14,46 @@ use Rattle.projection.specs.declared.Projected.{Projected}
 use Rattle.linearization.specs.declared.linearize.LocalLinearization.{LocalLinearization}
 use Rattle.linearization.specs.declared.terms.PointTerms.{PointTerms}
 use Rattle.linearization.specs.declared.views.Pose.{Pose}
-use Rattle.linearization.specs.declared.views.Dot.{Dot}
+use Rattle.linearization.specs.declared.views.Correspondence.{Correspondence}
 use Rattle.linearization.specs.declared.views.LinearizedViews.{LinearizedViews}
 use Rattle.linearization.specs.Views.{goodDeviation, notSeen, weightedViews, linearizeViews}
 use Rattle.linearization.specs.Accumulate.{poseHessian, poseProducts}
 use Rattle.linearization.specs.Linearize.{notMade, poseRows, sums, block, linearizePoint, terms, pointTerms}
 
-module _ (camera1 camera2 : PinholeCamera) (pose : Pose) (dot : Dot) (g : Bool) (t : g ≡ goodDeviation (dot .«inverse_deviation»)) where
-  pub deviation-refused : (r : LinearizedViews) (s : Refusal) → not g ≡ true → r ≡ notSeen s → s ≡ of Rows.inverseDeviation → r ≡ linearizeViews camera1 camera2 pose dot
+module _ (camera1 camera2 : PinholeCamera) (pose : Pose) (correspondence : Correspondence) (g : Bool) (t : g ≡ goodDeviation (correspondence .«inverse_deviation»)) where
+  pub deviation-refused : (r : LinearizedViews) (s : Refusal) → not g ≡ true → r ≡ notSeen s → s ≡ of Rows.inverseDeviation → r ≡ linearizeViews camera1 camera2 pose correspondence
   unfolding linearizeViews
   deviation-refused r s p q h = rw (← t, not-true g p, ← h) q
 
-  module _ (p : not g ≡ false) (first : Projected) (b : Bool) (e : first ≡ pixelProjection camera1 (dot .view1) (dot .point)) (u : b ≡ isNone (first .refusal)) where
-    pub first-refused : (r : LinearizedViews) (s : Refusal) → not b ≡ true → r ≡ notSeen s → s ≡ at Rows.projection 1 0 → r ≡ linearizeViews camera1 camera2 pose dot
+  module _ (p : not g ≡ false) (first : Projected) (b : Bool) (e : first ≡ pixelProjection camera1 (correspondence .view1) (correspondence .point)) (u : b ≡ isNone (first .refusal)) where
+    pub first-refused : (r : LinearizedViews) (s : Refusal) → not b ≡ true → r ≡ notSeen s → s ≡ at Rows.projection 1 0 → r ≡ linearizeViews camera1 camera2 pose correspondence
     unfolding linearizeViews
     first-refused r s q k h = rw (← t, not-false g p, ← e, ← u, not-true b q, ← h) k
 
-    module _ (q : not b ≡ false) (rotated moved : List Float) (second : Projected) (d : Bool) (f : rotated ≡ rotate (pose .rotation) (dot .point)) (m : moved ≡ cameraPoint rotated (pose .translation))
-        (i : second ≡ pixelProjection camera2 (dot .view2) moved) (v : d ≡ isNone (second .refusal)) where
-      pub second-refused : (r : LinearizedViews) (s : Refusal) → not d ≡ true → r ≡ notSeen s → s ≡ at Rows.projection 2 0 → r ≡ linearizeViews camera1 camera2 pose dot
+    module _ (q : not b ≡ false) (rotated moved : List Float) (second : Projected) (d : Bool) (f : rotated ≡ rotate (pose .rotation) (correspondence .point)) (m : moved ≡ cameraPoint rotated (pose .translation))
+        (i : second ≡ pixelProjection camera2 (correspondence .view2) moved) (v : d ≡ isNone (second .refusal)) where
+      pub second-refused : (r : LinearizedViews) (s : Refusal) → not d ≡ true → r ≡ notSeen s → s ≡ at Rows.projection 2 0 → r ≡ linearizeViews camera1 camera2 pose correspondence
       unfolding linearizeViews
       second-refused r s j k h = rw (← t, not-false g p, ← e, ← u, not-false b q, ← f, ← m, ← i, ← v, not-true d j, ← h) k
 
-      pub both-seen : (r : LinearizedViews) → not d ≡ false → r ≡ weightedViews first second rotated pose (dot .«inverse_deviation») → r ≡ linearizeViews camera1 camera2 pose dot
+      pub both-seen : (r : LinearizedViews) → not d ≡ false → r ≡ weightedViews first second rotated pose (correspondence .«inverse_deviation») → r ≡ linearizeViews camera1 camera2 pose correspondence
       unfolding linearizeViews
       both-seen r j k = rw (← t, not-false g p, ← e, ← u, not-false b q, ← f, ← m, ← i, ← v, not-false d j) k
 
-module _ (camera1 camera2 : PinholeCamera) (pose : Pose) (dot : Dot) (v : LinearizedViews) (b : Bool) (e : v ≡ linearizeViews camera1 camera2 pose dot) (u : b ≡ isNone (v .refusal)) where
-  pub not-made : (r : LocalLinearization) → not b ≡ true → r ≡ notMade (v .refusal) → r ≡ linearizePoint camera1 camera2 pose dot
+module _ (camera1 camera2 : PinholeCamera) (pose : Pose) (correspondence : Correspondence) (v : LinearizedViews) (b : Bool) (e : v ≡ linearizeViews camera1 camera2 pose correspondence) (u : b ≡ isNone (v .refusal)) where
+  pub not-made : (r : LocalLinearization) → not b ≡ true → r ≡ notMade (v .refusal) → r ≡ linearizePoint camera1 camera2 pose correspondence
   unfolding linearizePoint
   not-made r p k = rw (← e, ← u, not-true b p) k
 
-  pub made : (r : LocalLinearization) → not b ≡ false → r ≡ block v (dot .«inverse_deviation») → r ≡ linearizePoint camera1 camera2 pose dot
+  pub made : (r : LocalLinearization) → not b ≡ false → r ≡ block v (correspondence .«inverse_deviation») → r ≡ linearizePoint camera1 camera2 pose correspondence
   unfolding linearizePoint
   made r p k = rw (← e, ← u, not-false b p) k
 
-  pub no-terms : (r : PointTerms) → not b ≡ true → r ≡ pointTerms (notMade (v .refusal)) → r ≡ pointTerms (linearizePoint camera1 camera2 pose dot)
+  pub no-terms : (r : PointTerms) → not b ≡ true → r ≡ pointTerms (notMade (v .refusal)) → r ≡ pointTerms (linearizePoint camera1 camera2 pose correspondence)
   unfolding linearizePoint
   no-terms r p k = rw (← e, ← u, not-true b p) k
 
-  pub some-terms : (r : PointTerms) → not b ≡ false → r ≡ terms (v .first) (v .second) → r ≡ pointTerms (linearizePoint camera1 camera2 pose dot)
+  pub some-terms : (r : PointTerms) → not b ≡ false → r ≡ terms (v .first) (v .second) → r ≡ pointTerms (linearizePoint camera1 camera2 pose correspondence)
   unfolding linearizePoint pointTerms block sums terms
   some-terms r p k = rw (← e, ← u, not-false b p) k
 

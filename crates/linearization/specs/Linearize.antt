@@ -10,7 +10,7 @@ use Rattle.projection.specs.declared.PinholeCamera.{PinholeCamera}
 use Rattle.linearization.specs.declared.linearize.LocalLinearization.{LocalLinearization}
 use Rattle.linearization.specs.declared.terms.PointTerms.{PointTerms}
 use Rattle.linearization.specs.declared.views.Pose.{Pose}
-use Rattle.linearization.specs.declared.views.Dot.{Dot}
+use Rattle.linearization.specs.declared.views.Correspondence.{Correspondence}
 use Rattle.linearization.specs.declared.views.View1.{View1}
 use Rattle.linearization.specs.declared.views.View2.{View2}
 use Rattle.linearization.specs.declared.views.LinearizedViews.{LinearizedViews}
@@ -57,10 +57,10 @@ block v weight =
     let n = norm (v .residual2) in
     sums v (zero ⊕ lossCost (m ⊗ weight) ⊕ lossCost (n ⊗ weight)) (zero ⊕ m ⊗ m ⊕ n ⊗ n)
 
-unfoldable pub linearizePoint : PinholeCamera → PinholeCamera → Pose → Dot → LocalLinearization
-linearizePoint camera1 camera2 pose dot =
-    let v = linearizeViews camera1 camera2 pose dot in
-    cond (isNone (v .refusal)) (block v (dot .«inverse_deviation»)) (notMade (v .refusal))
+unfoldable pub linearizePoint : PinholeCamera → PinholeCamera → Pose → Correspondence → LocalLinearization
+linearizePoint camera1 camera2 pose correspondence =
+    let v = linearizeViews camera1 camera2 pose correspondence in
+    cond (isNone (v .refusal)) (block v (correspondence .«inverse_deviation»)) (notMade (v .refusal))
 
 -- what the step of a point needs of its block
 unfoldable pub pointTerms : LocalLinearization → PointTerms

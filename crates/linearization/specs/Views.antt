@@ -14,7 +14,7 @@ use Rattle.projection.specs.Projection.{pixelProjection}
 use Rattle.projection.specs.declared.PinholeCamera.{PinholeCamera}
 use Rattle.projection.specs.declared.Projected.{Projected}
 use Rattle.linearization.specs.declared.views.Pose.{Pose}
-use Rattle.linearization.specs.declared.views.Dot.{Dot}
+use Rattle.linearization.specs.declared.views.Correspondence.{Correspondence}
 use Rattle.linearization.specs.declared.views.View1.{View1}
 use Rattle.linearization.specs.declared.views.View2.{View2}
 use Rattle.linearization.specs.declared.views.LinearizedViews.{LinearizedViews}
@@ -72,13 +72,13 @@ weightedViews first second rotated pose weight = record {
   refusal = none;
 }
 
-unfoldable pub linearizeViews : PinholeCamera → PinholeCamera → Pose → Dot → LinearizedViews
-linearizeViews camera1 camera2 pose dot =
-    let rotated = rotate (pose .rotation) (dot .point) in
-    let first = pixelProjection camera1 (dot .view1) (dot .point) in
-    let second = pixelProjection camera2 (dot .view2) (cameraPoint rotated (pose .translation)) in
-    cond (goodDeviation (dot .«inverse_deviation»))
+unfoldable pub linearizeViews : PinholeCamera → PinholeCamera → Pose → Correspondence → LinearizedViews
+linearizeViews camera1 camera2 pose correspondence =
+    let rotated = rotate (pose .rotation) (correspondence .point) in
+    let first = pixelProjection camera1 (correspondence .view1) (correspondence .point) in
+    let second = pixelProjection camera2 (correspondence .view2) (cameraPoint rotated (pose .translation)) in
+    cond (goodDeviation (correspondence .«inverse_deviation»))
     (cond (isNone (first .refusal))
-    (cond (isNone (second .refusal)) (weightedViews first second rotated pose (dot .«inverse_deviation»)) (notSeen (at Rows.projection 2 0)))
+    (cond (isNone (second .refusal)) (weightedViews first second rotated pose (correspondence .«inverse_deviation»)) (notSeen (at Rows.projection 2 0)))
     (notSeen (at Rows.projection 1 0)))
     (notSeen (of Rows.inverseDeviation))

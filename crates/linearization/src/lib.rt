@@ -17,6 +17,6 @@ pub use linearize::linearize_point;
 pub use terms::PointTerms;
 pub use terms::point_terms;
 pub use terms::terms_of;
-pub use views::Dot;
+pub use views::Correspondence;
 pub use views::Pose;
 pub use views::good_deviation;

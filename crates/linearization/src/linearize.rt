@@ -8,7 +8,7 @@ use crate::accumulate;
 use crate::loss;
 use crate::terms;
 use crate::views;
-use crate::views::Dot;
+use crate::views::Correspondence;
 use crate::views::LinearizedViews;
 use crate::views::Pose;
 use projection::PinholeCamera;
@@ -27,21 +27,21 @@ pub struct LocalLinearization {
     pub refusal: Refusal,
 }
 
-// The block of a dot. Tests row 4, then row 9 with view 1 or 2.
+// The block of a correspondence. Tests row 4, then row 9 with view 1 or 2.
 pub fn linearize_point(
     camera1: PinholeCamera,
     camera2: PinholeCamera,
     pose: Pose,
-    dot: Dot,
+    correspondence: Correspondence,
 ) -> LocalLinearization
-    ensures { λ r. ⌜ r ≡ Linearize.linearizePoint camera1 camera2 pose dot ⌝ }
+    ensures { λ r. ⌜ r ≡ Linearize.linearizePoint camera1 camera2 pose correspondence ⌝ }
 {
-    let views = views::linearize_views(camera1, camera2, pose, dot);
+    let views = views::linearize_views(camera1, camera2, pose, correspondence);
     let refusal = views.refusal;
     if !refusal.is_none() {
         return not_made(refusal);
     }
-    block(views, dot.inverse_deviation)
+    block(views, correspondence.inverse_deviation)
 }
 
 fn not_made(refusal: Refusal) -> LocalLinearization

@@ -8,7 +8,7 @@ ghost use Rattle.linearization.specs.Linearize as Linearize;
 use crate::accumulate;
 use crate::linearize::LocalLinearization;
 use crate::views;
-use crate::views::Dot;
+use crate::views::Correspondence;
 use crate::views::Pose;
 use crate::views::View1;
 use crate::views::View2;
@@ -20,16 +20,16 @@ pub struct PointTerms {
     pub point_gradient: [f64; 3],
 }
 
-// The terms of a dot's block, each +0 where the block is refused
+// The terms of a correspondence's block, each +0 where the block is refused
 pub fn point_terms(
     camera1: PinholeCamera,
     camera2: PinholeCamera,
     pose: Pose,
-    dot: Dot,
+    correspondence: Correspondence,
 ) -> PointTerms
-    ensures { λ r. ⌜ r ≡ Linearize.pointTerms (Linearize.linearizePoint camera1 camera2 pose dot) ⌝ }
+    ensures { λ r. ⌜ r ≡ Linearize.pointTerms (Linearize.linearizePoint camera1 camera2 pose correspondence) ⌝ }
 {
-    let views = views::linearize_views(camera1, camera2, pose, dot);
+    let views = views::linearize_views(camera1, camera2, pose, correspondence);
     let refusal = views.refusal;
     if !refusal.is_none() {
         return PointTerms {

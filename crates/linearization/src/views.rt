@@ -21,7 +21,7 @@ pub struct Pose {
 }
 
 // A point, seen by both cameras, with its inverse standard deviation
-pub struct Dot {
+pub struct Correspondence {
     pub point: [f64; 3],
     pub view1: [f64; 2],
     pub view2: [f64; 2],
@@ -55,16 +55,16 @@ pub fn linearize_views(
     camera1: PinholeCamera,
     camera2: PinholeCamera,
     pose: Pose,
-    dot: Dot,
+    correspondence: Correspondence,
 ) -> LinearizedViews
-    ensures { λ r. ⌜ r ≡ Views.linearizeViews camera1 camera2 pose dot ⌝ }
+    ensures { λ r. ⌜ r ≡ Views.linearizeViews camera1 camera2 pose correspondence ⌝ }
 {
-    let weight = dot.inverse_deviation;
+    let weight = correspondence.inverse_deviation;
     if !good_deviation(weight) {
         return not_seen(Refusal::of(refusal::INVERSE_DEVIATION));
     }
-    let point = dot.point;
-    let view1 = dot.view1;
+    let point = correspondence.point;
+    let view1 = correspondence.view1;
     let first = projection::pixel_projection(camera1, view1, point);
     let refusal1 = first.refusal;
     if !refusal1.is_none() {
@@ -73,7 +73,7 @@ pub fn linearize_views(
     let rotation = pose.rotation;
     let translation = pose.translation;
     let rotated = jacobians::rotate(rotation, point);
-    let view2 = dot.view2;
+    let view2 = correspondence.view2;
     let second = projection::pixel_projection(
         camera2,
         view2,

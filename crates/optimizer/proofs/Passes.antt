@@ -17,15 +17,15 @@ use Rattle.schur.specs.Model.{finishDamping}
 use Rattle.linearization.specs.Linearize.{pointTerms}
 use Rattle.schur.specs.PointStep.{stepOf, stepped, notStepped, stepOfTerms, pointStep}
 use Rattle.linearization.specs.declared.linearize.LocalLinearization.{LocalLinearization}
-use Rattle.linearization.specs.declared.views.Dot.{Dot}
+use Rattle.linearization.specs.declared.views.Correspondence.{Correspondence}
 use Rattle.schur.specs.declared.point_step.PointStep.{PointStep}
 use Rattle.schur.specs.declared.system.ReducedSystem.{ReducedSystem}
 use Rattle.schur.specs.declared.system.Added.{Added}
-use Rattle.optimizer.specs.Problem.{Problem, count, dotAt, blockOf}
+use Rattle.optimizer.specs.Problem.{Problem, count, correspondenceAt, blockOf}
 use Rattle.optimizer.specs.Step.{systemTo, reducedSystem, pointStepOf, stepAt, stepsTo, squaredNorm, sumsTo}
 
-abbrev dot : Problem → ℕ → Dot
-dot p i = dotAt (p .points) (p .view1) (p .view2) (p .deviations) i
+abbrev correspondence : Problem → ℕ → Correspondence
+correspondence p i = correspondenceAt (p .points) (p .view1) (p .view2) (p .deviations) i
 
 -- ---- the system
 
@@ -33,7 +33,7 @@ pub system-none : (p : Problem) (s : ReducedSystem) → s ≡ newSystem → s �
 unfolding systemTo
 system-none p s e = e
 
-pub system-next : (p : Problem) (i : ℕ) (s : ReducedSystem) (d : Dot) (b : LocalLinearization) (a : Added) → s ≡ systemTo p i → d ≡ dot p i → b ≡ blockOf (p .rig) d
+pub system-next : (p : Problem) (i : ℕ) (s : ReducedSystem) (d : Correspondence) (b : LocalLinearization) (a : Added) → s ≡ systemTo p i → d ≡ correspondence p i → b ≡ blockOf (p .rig) d
     → a ≡ add s b (p .damping) → a .system ≡ systemTo p (i + 1)
 unfolding systemTo
 system-next p i s d b a e f g k = rw (add-one i, k, g, f, e) refl
@@ -65,12 +65,12 @@ room-length room i x =
     length-set (set (set room (3 * i) (x ! 0)) (3 * i + 1) (x ! 1)) (3 * i + 2) (x ! 2) ∙ length-set (set room (3 * i) (x ! 0)) (3 * i + 1) (x ! 1) ∙ length-set room (3 * i) (x ! 0)
 
 module _ (p : Problem) (s : List Float) where
-  pub stepped-at : (i : ℕ) (d : Dot) (x : PointStep) → d ≡ dot p i → x ≡ pointStepOf (p .rig) d (p .damping) s → x ≡ stepAt p s i
-  stepped-at i d x e f = f ∙ ap (λ (t : Dot). pointStepOf (p .rig) t (p .damping) s) e
+  pub stepped-at : (i : ℕ) (d : Correspondence) (x : PointStep) → d ≡ correspondence p i → x ≡ pointStepOf (p .rig) d (p .damping) s → x ≡ stepAt p s i
+  stepped-at i d x e f = f ∙ ap (λ (t : Correspondence). pointStepOf (p .rig) t (p .damping) s) e
 
   step-three : (i : ℕ) → length (stepAt p s i .step) ≡ 3
   unfolding pointStepOf
-  step-three i = step-length (blockOf (p .rig) (dot p i)) (p .damping) s
+  step-three i = step-length (blockOf (p .rig) (correspondence p i)) (p .damping) s
 
   pub steps-length : (n : ℕ) → length (stepsTo p s n) ≡ 3 * n
   unfolding stepsTo

@@ -23,14 +23,14 @@ use Rattle.schur.specs.Calls.{Inputs, Call, atDamping, after, factors, smallRco
 use Rattle.linearization.specs.declared.linearize.LocalLinearization.{LocalLinearization}
 use Rattle.schur.specs.declared.system.ReducedSystem.{ReducedSystem}
 use Rattle.schur.proofs.Claim.{claim}
-use Rattle.optimizer.specs.Problem.{Problem, count, dotAt, blockOf, blockAt}
+use Rattle.optimizer.specs.Problem.{Problem, count, correspondenceAt, blockOf, blockAt}
 use Rattle.optimizer.specs.Step.{systemTo, reducedSystem, pointStepOf, stepAt}
 use Rattle.optimizer.proofs.Parts.{both-hold}
 
 -- ---- the problem's blocks as calls of `add`, from an index on
 
 abbrev inputs : Problem → ℕ → Inputs
-inputs p i = record { camera1 = p .rig .camera1; camera2 = p .rig .camera2; pose = p .rig .pose; dot = dotAt (p .points) (p .view1) (p .view2) (p .deviations) i }
+inputs p i = record { camera1 = p .rig .camera1; camera2 = p .rig .camera2; pose = p .rig .pose; correspondence = correspondenceAt (p .points) (p .view1) (p .view2) (p .deviations) i }
 
 abbrev calls : Problem → ℕ → ℕ → List Call
 calls p i zero = []

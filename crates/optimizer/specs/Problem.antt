@@ -11,7 +11,7 @@ use Rattle.projection.specs.Projection.{pixelProjection}
 use Rattle.projection.specs.declared.Projected.{Projected}
 use Rattle.linearization.specs.Linearize.{linearizePoint}
 use Rattle.linearization.specs.declared.linearize.LocalLinearization.{LocalLinearization}
-use Rattle.linearization.specs.declared.views.Dot.{Dot}
+use Rattle.linearization.specs.declared.views.Correspondence.{Correspondence}
 use Rattle.optimizer.specs.declared.Rig.{Rig}
 
 -- three numbers a point, two a point in each view, one a point
@@ -40,15 +40,15 @@ pair l i = l ! (2 * i) ∷ l ! (2 * i + 1) ∷ []
 abbrev pub observation : List Float → List Float → ℕ → ℕ → List Float
 observation view1 view2 view i = cond (eqb view 1) (pair view1 i) (pair view2 i)
 
-abbrev pub dotAt : List Float → List Float → List Float → List Float → ℕ → Dot
-dotAt points view1 view2 deviations i = record { point = triple points i; view1 = pair view1 i; view2 = pair view2 i; «inverse_deviation» = deviations ! i }
+abbrev pub correspondenceAt : List Float → List Float → List Float → List Float → ℕ → Correspondence
+correspondenceAt points view1 view2 deviations i = record { point = triple points i; view1 = pair view1 i; view2 = pair view2 i; «inverse_deviation» = deviations ! i }
 
--- the block of a dot
-unfoldable pub blockOf : Rig → Dot → LocalLinearization
-blockOf h dot = linearizePoint (h .camera1) (h .camera2) (h .pose) dot
+-- the block of a correspondence
+unfoldable pub blockOf : Rig → Correspondence → LocalLinearization
+blockOf h correspondence = linearizePoint (h .camera1) (h .camera2) (h .pose) correspondence
 
 abbrev pub blockAt : Problem → ℕ → LocalLinearization
-blockAt p i = blockOf (p .rig) (dotAt (p .points) (p .view1) (p .view2) (p .deviations) i)
+blockAt p i = blockOf (p .rig) (correspondenceAt (p .points) (p .view1) (p .view2) (p .deviations) i)
 
 -- `transform` and `project` of residual.rs: a point as view 1 or 2 sees it
 unfoldable pub project : Rig → ℕ → List Float → List Float → Projected

@@ -21,13 +21,13 @@ use Rattle.schur.specs.System.{newSystem, add}
 use Rattle.schur.specs.Model.{finishDamping, isValid, gradientInfNorm, predictedReduction}
 use Rattle.schur.specs.PointStep.{pointStep}
 use Rattle.schur.specs.declared.system.ReducedSystem.{ReducedSystem}
-use Rattle.linearization.specs.declared.views.Dot.{Dot}
+use Rattle.linearization.specs.declared.views.Correspondence.{Correspondence}
 use Rattle.schur.specs.declared.point_step.PointStep.{PointStep}
 use Rattle.optimizer.specs.declared.Rig.{Rig}
 use Rattle.optimizer.specs.declared.StepResult.{StepResult}
 use Rattle.optimizer.specs.declared.point_steps.Sums.{Sums}
 use Rattle.optimizer.specs.declared.reduced.Reduced.{Reduced}
-use Rattle.optimizer.specs.Problem.{Problem, count, dotAt, blockOf, blockAt}
+use Rattle.optimizer.specs.Problem.{Problem, count, correspondenceAt, blockOf, blockAt}
 use Rattle.optimizer.specs.Checks as Checks
 
 -- the system with the first blocks added, in their order
@@ -89,11 +89,11 @@ poseStepOf p = poseStep (solvedOf p .x)
 
 -- ---- the steps of the points, and their sums as `candidate_cost` has them, from +0
 
-unfoldable pub pointStepOf : Rig → Dot → Float → List Float → PointStep
-pointStepOf h dot damping s = pointStep (blockOf h dot) damping s
+unfoldable pub pointStepOf : Rig → Correspondence → Float → List Float → PointStep
+pointStepOf h correspondence damping s = pointStep (blockOf h correspondence) damping s
 
 abbrev pub stepAt : Problem → List Float → ℕ → PointStep
-stepAt p s i = pointStepOf (p .rig) (dotAt (p .points) (p .view1) (p .view2) (p .deviations) i) (p .damping) s
+stepAt p s i = pointStepOf (p .rig) (correspondenceAt (p .points) (p .view1) (p .view2) (p .deviations) i) (p .damping) s
 
 unfoldable pub stepsTo : Problem → List Float → ℕ → List Float
 stepsTo p s zero = []

@@ -10,7 +10,7 @@ ghost use Rattle.refusal.specs.First as First;
 ghost use Rattle.optimizer.specs.Checks as Checks;
 ghost use Rattle.optimizer.specs.Problem as Problem;
 use crate::Rig;
-use crate::dots;
+use crate::correspondences;
 use refusal::Refusal;
 
 const MINIMUM_POINTS: usize = 5;
@@ -108,7 +108,7 @@ fn points_refused(points: &[f64], n: usize) -> Refusal
     ensures { λ r. ⌜ r ≡ First.first (Checks.pointAt (now (points .entry))) 0 n ⌝ }
 {
     for i in 0..n {
-        let point = dots::point_at(points, i);
+        let point = correspondences::point_at(points, i);
         if !number::all_finite(&point) {
             return Refusal::at(refusal::POINT, 0, i as u32);
         }
@@ -144,7 +144,7 @@ fn view_refused(view: &[f64], number: u32, n: usize) -> Refusal
     ensures { λ r. ⌜ r ≡ First.first (Checks.observationAt number (now (view .entry))) 0 n ⌝ }
 {
     for i in 0..n {
-        let observation = dots::pair_at(view, i);
+        let observation = correspondences::pair_at(view, i);
         if !number::all_finite(&observation) {
             return Refusal::at(refusal::OBSERVATION, number, i as u32);
         }
@@ -165,10 +165,10 @@ fn projections_refused<'a>(
 {
     let mut place = Refusal::none();
     'points: for i in 0..n {
-        let point = dots::point_at(points, i);
+        let point = correspondences::point_at(points, i);
         for view in 1..=2u32 {
-            let seen = dots::observation(view1, view2, view, i);
-            let projected = dots::project(rig, view, [seen[0], seen[1]], point);
+            let seen = correspondences::observation(view1, view2, view, i);
+            let projected = correspondences::project(rig, view, [seen[0], seen[1]], point);
             let refusal = projected.refusal;
             if !refusal.is_none() {
                 place = Refusal::at(refusal::PROJECTION, view, i as u32);

@@ -3,7 +3,7 @@
 
 // One whole step of the two-view problem over lent memory: kernel/two_view/optimizer.rs, residual.rs.
 mod checks;
-mod dots;
+mod correspondences;
 mod limit;
 mod point_steps;
 mod reduced;

@@ -9,8 +9,8 @@ ghost use Rattle.optimizer.specs.Checks as Checks;
 ghost use Rattle.optimizer.specs.Problem as Problem;
 ghost use Rattle.optimizer.specs.Step as Steps;
 use crate::Rig;
-use crate::dots;
-use linearization::Dot;
+use crate::correspondences;
+use linearization::Correspondence;
 use schur::PointStep;
 
 // The squared lengths of the point steps and their damping norms, summed
@@ -37,8 +37,14 @@ pub(crate) fn write_steps(
     let mut squared = 0.0;
     let mut damping_norm = 0.0;
     for i in 0..inverse_deviations.len() {
-        let dot = dots::dot_at(points, view1, view2, inverse_deviations, i);
-        let moved = point_step(rig, dot, damping, pose_step);
+        let correspondence = correspondences::correspondence_at(
+            points,
+            view1,
+            view2,
+            inverse_deviations,
+            i,
+        );
+        let moved = point_step(rig, correspondence, damping, pose_step);
         let s = moved.step;
         room[3 * i] = s[0];
         room[3 * i + 1] = s[1];
@@ -52,11 +58,20 @@ pub(crate) fn write_steps(
     }
 }
 
-// The step of one dot
-fn point_step(rig: Rig, dot: Dot, damping: f64, pose_step: [f64; 5]) -> PointStep
-    ensures { λ r. ⌜ r ≡ Steps.pointStepOf rig dot damping «pose_step» ⌝ }
+// The step of one correspondence
+fn point_step(
+    rig: Rig,
+    correspondence: Correspondence,
+    damping: f64,
+    pose_step: [f64; 5],
+) -> PointStep
+    ensures { λ r. ⌜ r ≡ Steps.pointStepOf rig correspondence damping «pose_step» ⌝ }
 {
-    schur::step_of_terms(dots::terms_of(rig, dot), damping, pose_step)
+    schur::step_of_terms(
+        correspondences::terms_of(rig, correspondence),
+        damping,
+        pose_step,
+    )
 }
 
 // The sum begins at −0.

@@ -8,7 +8,7 @@ ghost use Rattle.optimizer.specs.Problem as Problem;
 ghost use Rattle.optimizer.specs.Step as Steps;
 use crate::Rig;
 use crate::checks;
-use crate::dots;
+use crate::correspondences;
 use refusal::Refusal;
 use schur::ReducedSystem;
 
@@ -76,8 +76,14 @@ pub(crate) fn damped_system(
 {
     let mut system = ReducedSystem::new();
     for i in 0..inverse_deviations.len() {
-        let dot = dots::dot_at(points, view1, view2, inverse_deviations, i);
-        let local = dots::block_of(rig, dot);
+        let correspondence = correspondences::correspondence_at(
+            points,
+            view1,
+            view2,
+            inverse_deviations,
+            i,
+        );
+        let local = correspondences::block_of(rig, correspondence);
         let added = system.add(local, damping);
         system = added.system;
     }

@@ -9,7 +9,7 @@ use lib.Ieee.{Float}
 use Rattle.number.specs.Vectors.{_!_}
 use Rattle.refusal.specs.Refused.{none}
 use Rattle.projection.specs.declared.PinholeCamera.{PinholeCamera}
-use Rattle.linearization.specs.declared.views.Dot.{Dot}
+use Rattle.linearization.specs.declared.views.Correspondence.{Correspondence}
 use Rattle.linearization.specs.declared.linearize.LocalLinearization.{LocalLinearization}
 use Rattle.linearization.specs.declared.views.Pose.{Pose}
 use Rattle.schur.specs.declared.system.ReducedSystem.{ReducedSystem}
@@ -34,8 +34,8 @@ pose x = record { rotation = part 0 9 x; translation = part 9 12 x; basis = part
 unfoldable pub rig : List Float → Rig
 rig x = record { camera1 = camera (part 0 5 x); camera2 = camera (part 5 10 x); pose = pose (part 10 29 x) }
 
-unfoldable pub dot : List Float → Dot
-dot x = record { point = part 0 3 x; view1 = part 3 5 x; view2 = part 5 7 x; «inverse_deviation» = x ! 7 }
+unfoldable pub correspondence : List Float → Correspondence
+correspondence x = record { point = part 0 3 x; view1 = part 3 5 x; view2 = part 5 7 x; «inverse_deviation» = x ! 7 }
 
 unfoldable pub block : List Float → LocalLinearization
 block x = record {

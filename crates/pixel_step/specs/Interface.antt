@@ -25,7 +25,7 @@ use Rattle.schur.specs.PointStep as PointStep
 use Rattle.schur.specs.declared.system.ReducedSystem.{ReducedSystem}
 use Rattle.optimizer.specs.Problem.{Problem}
 use Rattle.optimizer.specs.Step as Step
-use Rattle.pixel_step.specs.Flat.{camera, rig, dot, block, blockNumbers, system, systemNumbers, systemCounts, flag, stepNumbers, stepCount}
+use Rattle.pixel_step.specs.Flat.{camera, rig, correspondence, block, blockNumbers, system, systemNumbers, systemCounts, flag, stepNumbers, stepCount}
 
 -- a refusal as one number
 unfoldable pub code : Refusal → ℕ
@@ -100,7 +100,7 @@ solvePositiveDefinite a b out =
 
 unfoldable pub linearizePoint : List Float → List Float → List Float → Answer Float
 linearizePoint x d out =
-    let b = Linearize.linearizePoint (rig x .camera1) (rig x .camera2) (rig x .pose) (dot d) in
+    let b = Linearize.linearizePoint (rig x .camera1) (rig x .camera2) (rig x .pose) (correspondence d) in
     answer (long x 29 && long d 8 && long out 59) (b .refusal) (blockNumbers b) out
 
 unfoldable pub pointStep : List Float → Float → List Float → List Float → Answer Float

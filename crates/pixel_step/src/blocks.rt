@@ -3,20 +3,29 @@ ghost use Rattle.pixel_step.specs.Interface as Interface;
 use crate::flat;
 use crate::memory;
 
-// rig: 29; dot: point, view 1, view 2, inverse deviation, 8; out: a block
+// rig: 29; correspondence: point, view 1, view 2, inverse deviation, 8; out: a block
 #[no_mangle]
-pub extern "C" fn pixel_step_linearize_point(rig: &[f64], dot: &[f64], out: &mut [f64]) -> u64
+pub extern "C" fn pixel_step_linearize_point(
+    rig: &[f64],
+    correspondence: &[f64],
+    out: &mut [f64],
+) -> u64
     ensures { λ r. ⌜ Interface.Answered r (now (out .exit))
-        (Interface.linearizePoint (now (rig .entry)) (now (dot .entry)) (now (out .entry))) ⌝ }
+        (Interface.linearizePoint (now (rig .entry)) (now (correspondence .entry)) (now (out .entry))) ⌝ }
 {
-    if !((rig.len() == 29) & (dot.len() == 8) & (out.len() == 59)) {
+    if !((rig.len() == 29) & (correspondence.len() == 8) & (out.len() == 59)) {
         return memory::lengths();
     }
     let r = flat::rig(rig);
     let camera1 = r.camera1;
     let camera2 = r.camera2;
     let pose = r.pose;
-    let b = linearization::linearize_point(camera1, camera2, pose, flat::dot(dot));
+    let b = linearization::linearize_point(
+        camera1,
+        camera2,
+        pose,
+        flat::correspondence(correspondence),
+    );
     let refusal = b.refusal;
     let values = flat::block_numbers(b);
     memory::answer(refusal, &values, out)

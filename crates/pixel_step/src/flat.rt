@@ -3,7 +3,7 @@ ghost use mathlib.Core.Path.{_≡_};
 ghost use lib.ListN.{length};
 ghost use Rattle.pixel_step.specs.Flat as Flat;
 use crate::memory;
-use linearization::Dot;
+use linearization::Correspondence;
 use linearization::LocalLinearization;
 use linearization::Pose;
 use optimizer::Rig;
@@ -49,11 +49,11 @@ pub(crate) fn rig(x: &[f64]) -> Rig
     }
 }
 
-pub(crate) fn dot(x: &[f64]) -> Dot
+pub(crate) fn correspondence(x: &[f64]) -> Correspondence
     requires { ⌜ length (now x) ≡ 8 ⌝ }
-    ensures { λ r. ⌜ r ≡ Flat.dot (now (x .entry)) ⌝ }
+    ensures { λ r. ⌜ r ≡ Flat.correspondence (now (x .entry)) ⌝ }
 {
-    Dot {
+    Correspondence {
         point: memory::vector3(&x[0..3]),
         view1: memory::vector2(&x[3..5]),
         view2: memory::vector2(&x[5..7]),

@@ -10,12 +10,12 @@ use borrow.Author.Tests.{ltb-true, ltb-false}
 use lib.Dec.{ltb}
 use lib.Ieee.{Float}
 use Rattle.number.specs.Vectors.{_!_, tabulate}
-use Rattle.linearization.specs.declared.views.Dot.{Dot}
+use Rattle.linearization.specs.declared.views.Correspondence.{Correspondence}
 use Rattle.linearization.specs.declared.linearize.LocalLinearization.{LocalLinearization}
 use Rattle.optimizer.specs.declared.Rig.{Rig}
-use Rattle.optimizer.specs.Problem.{Problem, problem, dotAt, blockOf, blockAt}
+use Rattle.optimizer.specs.Problem.{Problem, problem, correspondenceAt, blockOf, blockAt}
 use Rattle.record.specs.Form.{pointFields, Formed}
-use Rattle.record.specs.Run.{numberAt, rig, damping, column, run, dotOf}
+use Rattle.record.specs.Run.{numberAt, rig, damping, column, run, correspondenceOf}
 use Rattle.record.specs.Lists.{letter, pointLine, pointLines}
 use Rattle.record.specs.Text.{Put}
 use Rattle.record.proofs.Puts.{put-none, put-same, put-put}
@@ -41,9 +41,9 @@ module _ (r : List ℕ) (i : ℕ) (h : i < pointFields r) where
   cell count first each j k = tabulate count (column r first each) ! j ≡ numberAt r k
 
   -- the lists of all points have the point's numbers at their places
-  same-dot : dotAt (run r .points) (run r .view1) (run r .view2) (run r .deviations) i ≡ dotOf r i
+  same-correspondence : correspondenceAt (run r .points) (run r .view1) (run r .view2) (run r .deviations) i ≡ correspondenceOf r i
   unfolding run
-  same-dot =
+  same-correspondence =
       let a : cell (3 * n) 0 3 (3 * i) at = entry (3 * n) (column r 0 3) (3 * i) (omega arith) ∙ place r 0 3 (3 * i) at (omega arith) in
       let b : cell (3 * n) 0 3 (3 * i + 1) (at + 8) = entry (3 * n) (column r 0 3) (3 * i + 1) (omega arith) ∙ place r 0 3 (3 * i + 1) (at + 8) (omega arith) in
       let c : cell (3 * n) 0 3 (3 * i + 2) (at + 16) = entry (3 * n) (column r 0 3) (3 * i + 2) (omega arith) ∙ place r 0 3 (3 * i + 2) (at + 16) (omega arith) in
@@ -54,12 +54,12 @@ module _ (r : List ℕ) (i : ℕ) (h : i < pointFields r) where
       let k : cell n 56 1 i (at + 56) = entry n (column r 56 1) i h ∙ place r 56 1 i (at + 56) (omega arith) in
       rw (a, b, c, d, e, f, g, k) refl
 
-  same-block : blockOf (rig r) (dotOf r i) ≡ blockAt (run r) i
+  same-block : blockOf (rig r) (correspondenceOf r i) ≡ blockAt (run r) i
   unfolding run
-  same-block = ap (λ (x : Dot). blockOf (rig r) x) (sym same-dot)
+  same-block = ap (λ (x : Correspondence). blockOf (rig r) x) (sym same-correspondence)
 
   pub next-line : (start : ℕ) (out : List ℕ) (middle : ℕ) (between : List ℕ) (next : ℕ) (after : List ℕ) → Put (pointLines (run r) i) start out middle between
-      → (x : Rig) → x ≡ rig r → (b : LocalLinearization) → b ≡ blockOf x (dotOf r i) → (d : Float) → d ≡ damping r → (l : ℕ) → l ≡ letter b d
+      → (x : Rig) → x ≡ rig r → (b : LocalLinearization) → b ≡ blockOf x (correspondenceOf r i) → (d : Float) → d ≡ damping r → (l : ℕ) → l ≡ letter b d
       → Put (pointLine i l) middle between next after → Put (pointLines (run r) (i + 1)) start out next after
   unfolding pointLines run
   next-line start out middle between next after p x e b f d g l k q =
@@ -67,7 +67,7 @@ module _ (r : List ℕ) (i : ℕ) (h : i < pointFields r) where
       (put-put (pointLines (run r) i) (pointLine i (letter (blockAt (run r) i) (run r .damping))) start out middle between next after p
       (put-same (pointLine i l) (pointLine i (letter (blockAt (run r) i) (run r .damping))) middle between next after
       (ap (λ (c : ℕ). pointLine i c)
-      (k ∙ ap (λ (y : Float). letter b y) g ∙ ap (λ (y : LocalLinearization). letter y (damping r)) (f ∙ ap (λ (y : Rig). blockOf y (dotOf r i)) e ∙ same-block)))
+      (k ∙ ap (λ (y : Float). letter b y) g ∙ ap (λ (y : LocalLinearization). letter y (damping r)) (f ∙ ap (λ (y : Rig). blockOf y (correspondenceOf r i)) e ∙ same-block)))
       q))
 
 pub no-lines : (p : Problem) (at : ℕ) (out : List ℕ) → Put (pointLines p 0) at out at out

@@ -4,7 +4,7 @@ use mathlib.Core.List.{List, [], _∷_, _++_}
 use lib.Ieee.{Float, binary64, ofBits}
 use Rattle.number.specs.Vectors.{tabulate}
 use Rattle.projection.specs.declared.PinholeCamera.{PinholeCamera}
-use Rattle.linearization.specs.declared.views.Dot.{Dot}
+use Rattle.linearization.specs.declared.views.Correspondence.{Correspondence}
 use Rattle.optimizer.specs.declared.Rig.{Rig}
 use Rattle.optimizer.specs.Problem.{Problem, problem}
 use Rattle.record.specs.Form.{byte, camera1At, camera2At, poseAt, basisAt, dampingAt, pointsAt, pointFields}
@@ -61,7 +61,7 @@ run r =
     problem (tabulate (3 * n) (column r 0 3)) (tabulate (2 * n) (column r 24 2)) (tabulate (2 * n) (column r 40 2)) (tabulate n (column r 56 1)) (rig r) (damping r)
 
 -- the point fields' numbers by point; `run` has them by column
-abbrev pub dotOf : List ℕ → ℕ → Dot
-dotOf r i =
+abbrev pub correspondenceOf : List ℕ → ℕ → Correspondence
+correspondenceOf r i =
     let at = pointsAt + 3 + 67 * i in
     record { point = threeAt r at; view1 = twoAt r (at + 24); view2 = twoAt r (at + 40); «inverse_deviation» = numberAt r (at + 56) }

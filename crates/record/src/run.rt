@@ -7,7 +7,7 @@ ghost use Rattle.optimizer.specs.Problem as Problem;
 ghost use Rattle.record.specs.Form as Form;
 ghost use Rattle.record.specs.Run as Run;
 use crate::fields;
-use linearization::Dot;
+use linearization::Correspondence;
 use linearization::LocalLinearization;
 use linearization::Pose;
 use optimizer::Rig;
@@ -101,12 +101,12 @@ pub(crate) fn rig_of(record: &[u8]) -> Rig
     }
 }
 
-fn dot_at(record: &[u8], i: usize) -> Dot
+fn correspondence_at(record: &[u8], i: usize) -> Correspondence
     requires { ⌜ (i < Form.pointFields (now «record»)) × Form.Formed (now «record») ⌝ }
-    ensures { λ r. ⌜ r ≡ Run.dotOf (now («record» .entry)) i ⌝ }
+    ensures { λ r. ⌜ r ≡ Run.correspondenceOf (now («record» .entry)) i ⌝ }
 {
     let at = fields::POINTS_AT + 3 + fields::POINT_SIZE * i;
-    Dot {
+    Correspondence {
         point: three_at(record, at),
         view1: two_at(record, at + 24),
         view2: two_at(record, at + 40),
@@ -117,10 +117,10 @@ fn dot_at(record: &[u8], i: usize) -> Dot
 // The block of a point
 pub(crate) fn block_at(record: &[u8], rig: Rig, i: usize) -> LocalLinearization
     requires { ⌜ (i < Form.pointFields (now «record»)) × Form.Formed (now «record») ⌝ }
-    ensures { λ r. ⌜ r ≡ Problem.blockOf rig (Run.dotOf (now («record» .entry)) i) ⌝ }
+    ensures { λ r. ⌜ r ≡ Problem.blockOf rig (Run.correspondenceOf (now («record» .entry)) i) ⌝ }
 {
     let camera1 = rig.camera1;
     let camera2 = rig.camera2;
     let pose = rig.pose;
-    linearization::linearize_point(camera1, camera2, pose, dot_at(record, i))
+    linearization::linearize_point(camera1, camera2, pose, correspondence_at(record, i))
 }

@@ -6,7 +6,7 @@ use crate::files;
 use crate::files::ROOM;
 use crate::outcomes::Outcome;
 use crate::projections;
-use linearization::Dot;
+use linearization::Correspondence;
 use linearization::LocalLinearization;
 use linearization::Pose;
 use refusal::Refusal;
@@ -48,7 +48,7 @@ pub fn linearize_point(case: Case) -> Outcome {
     let camera2 = projections::camera(case, 5);
     made(
         case,
-        linearization::linearize_point(camera1, camera2, pose(case), dot(case)),
+        linearization::linearize_point(camera1, camera2, pose(case), correspondence(case)),
     )
 }
 
@@ -154,10 +154,10 @@ fn pose(case: Case) -> Pose {
     }
 }
 
-fn dot(case: Case) -> Dot {
+fn correspondence(case: Case) -> Correspondence {
     let mut point = [0.0; 3];
     case.fill(29, &mut point);
-    Dot {
+    Correspondence {
         point,
         view1: [case.number(32), case.number(33)],
         view2: [case.number(34), case.number(35)],

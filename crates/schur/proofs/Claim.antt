@@ -236,7 +236,7 @@ module _ (d : Float) (good : T (goodDamping d)) where
     b = made i
 
     costs : Costs b
-    costs = made-costs (i .camera1) (i .camera2) (i .pose) (i .dot)
+    costs = made-costs (i .camera1) (i .camera2) (i .pose) (i .correspondence)
 
     next-sound : Sound (taken s b d)
     next-sound = sound-taken s b k (costs .0) (costs .1)

@@ -13,7 +13,7 @@ use Rattle.projection.specs.declared.PinholeCamera.{PinholeCamera}
 use Rattle.point_block.specs.Lone.{goodDamping, loneFactor}
 use Rattle.linearization.specs.declared.linearize.LocalLinearization.{LocalLinearization}
 use Rattle.linearization.specs.declared.views.Pose.{Pose}
-use Rattle.linearization.specs.declared.views.Dot.{Dot}
+use Rattle.linearization.specs.declared.views.Correspondence.{Correspondence}
 use Rattle.schur.specs.declared.system.ReducedSystem.{ReducedSystem}
 use Rattle.schur.specs.declared.system.Added.{Added}
 use Rattle.linearization.specs.Linearize.{linearizePoint}
@@ -24,11 +24,11 @@ pub record Inputs : Type 0 where
   pub camera1 : PinholeCamera
   pub camera2 : PinholeCamera
   pub pose : Pose
-  pub dot : Dot
+  pub correspondence : Correspondence
 
 -- what the block maker returns, a refused point's +0 everywhere too
 abbrev pub made : Inputs → LocalLinearization
-made i = linearizePoint (i .camera1) (i .camera2) (i .pose) (i .dot)
+made i = linearizePoint (i .camera1) (i .camera2) (i .pose) (i .correspondence)
 
 -- A call brings a block that the block maker returned, from any inputs, and the list's damping or one that row 3 refuses.
 pub data Call : Type 0 where

@@ -49,7 +49,7 @@ loop-again c =
     let s = a .pose-step in
     let i = l .loop .i in
     let moved = m .before .before .point-step .result in
-    let e = stepped-at p s i _ moved (m .before .before .before .dot-at .ensures) (m .before .before .point-step .ensures) in (
+    let e = stepped-at p s i _ moved (m .before .before .before .correspondence-at .ensures) (m .before .before .point-step .ensures) in (
       omega arith,
       l .loop .inv .1,
       room-length (l .loop .room) i (moved .step) ∙ l .loop .inv .2,

@@ -28,7 +28,7 @@ loop-again : tie.Need-loop-again Inv-loop μ-loop
 loop-again c =
     let a = c .before in
     let l = a .before .before .before .before in
-    (omega arith, l .loop .inv .1, system-next _ _ _ _ _ _ (l .loop .inv .2) (a .before .before .dot-at .ensures) (a .before .block-of .ensures) (a .add .ensures))
+    (omega arith, l .loop .inv .1, system-next _ _ _ _ _ _ (l .loop .inv .2) (a .before .before .correspondence-at .ensures) (a .before .block-of .ensures) (a .add .ensures))
 
 returns : tie.Need-returns Inv-loop μ-loop
 returns c =

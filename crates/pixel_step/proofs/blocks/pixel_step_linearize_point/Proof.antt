@@ -2,7 +2,7 @@
 use mathlib.Core.Path.{_≡_, sym, ap, _∙_}
 use lib.ListN.{length}
 use Rattle.linearization.specs.Linearize as Linearize
-use Rattle.linearization.specs.declared.views.Dot.{Dot}
+use Rattle.linearization.specs.declared.views.Correspondence.{Correspondence}
 use Rattle.linearization.specs.declared.linearize.LocalLinearization.{LocalLinearization}
 use Rattle.optimizer.specs.declared.Rig.{Rig}
 use Rattle.pixel_step.specs.Flat.{rig, blockNumbers}
@@ -12,8 +12,8 @@ use borrow.Author.Needs.{needs}
 use Rattle.pixel_step.proofs.blocks.pixel_step_linearize_point.Statement.{statement}
 use Rattle.pixel_step.proofs.blocks.pixel_step_linearize_point.Tie as tie
 
-fit : (c : tie.Else1) → (length (c .before .before .before .before .args .rig .now) ≡ 29) × (length (c .before .before .before .before .args .dot .now) ≡ 8) × (length (c .before .before .before .before .args .out .now) ≡ 59)
-fit c = three-fit (length (c .before .before .before .before .args .rig .now)) (length (c .before .before .before .before .args .dot .now)) (length (c .before .before .before .before .args .out .now)) 29 8 59 (c .if1 .left)
+fit : (c : tie.Else1) → (length (c .before .before .before .before .args .rig .now) ≡ 29) × (length (c .before .before .before .before .args .correspondence .now) ≡ 8) × (length (c .before .before .before .before .args .out .now) ≡ 59)
+fit c = three-fit (length (c .before .before .before .before .args .rig .now)) (length (c .before .before .before .before .args .correspondence .now)) (length (c .before .before .before .before .args .out .now)) 29 8 59 (c .if1 .left)
 
 -- the array has its length
 sized : (c : tie.After-answer-arg) → length (c .before .before .block-numbers .result) ≡ 59
@@ -26,8 +26,8 @@ returns c = too-short _ _ _ _ _ (c .before .if1 .taken) (c .lengths .ensures)
 rig-requires : tie.Need-rig-requires
 rig-requires c κs = fit c .0
 
-dot-requires : tie.Need-dot-requires
-dot-requires c κs = fit (c .before .before .before .before) .1
+correspondence-requires : tie.Need-correspondence-requires
+correspondence-requires c κs = fit (c .before .before .before .before) .1
 
 answer-requires : tie.Need-answer-requires
 answer-requires c κs = sized c ∙ sym (fit (c .before .before .before .before .before .before .before .before .before .before) .2)
@@ -36,11 +36,11 @@ returns-2 : tie.Need-returns-2
 unfolding linearizePoint
 returns-2 c =
     let g = c .before .before .before .before .before .before .before .before .before .before .before .before .rig in
-    let d = c .before .before .before .before .before .before .before .before .dot in
+    let d = c .before .before .before .before .before .before .before .before .correspondence in
     let e =
     c .before .before .before .before .before .before .before .linearize-point .ensures
     ∙ ap (λ (x : Rig). Linearize.linearizePoint (x .camera1) (x .camera2) (x .pose) (d .result)) (g .ensures)
-    ∙ ap (λ (x : Dot). Linearize.linearizePoint (rig (c .before .before .before .before .before .before .before .before .before .before .before .before .before .before .before .before .before .args .rig .now) .camera1) (rig (c .before .before .before .before .before .before .before .before .before .before .before .before .before .before .before .before .before .args .rig .now) .camera2) (rig (c .before .before .before .before .before .before .before .before .before .before .before .before .before .before .before .before .before .args .rig .now) .pose) x) (d .ensures) in
+    ∙ ap (λ (x : Correspondence). Linearize.linearizePoint (rig (c .before .before .before .before .before .before .before .before .before .before .before .before .before .before .before .before .before .args .rig .now) .camera1) (rig (c .before .before .before .before .before .before .before .before .before .before .before .before .before .before .before .before .before .args .rig .now) .camera2) (rig (c .before .before .before .before .before .before .before .before .before .before .before .before .before .before .before .before .before .args .rig .now) .pose) x) (d .ensures) in
     answers _ _ _ _ _ _ _ _ (c .before .before .before .before .before .before .before .before .before .before .before .before .before .if1 .left) (ap (λ (b : LocalLinearization). b .refusal) e) (c .before .before .before .before .before .block-numbers .ensures ∙ ap blockNumbers e) (c .before .before .answer .ensures)
 
 pub pixel-step-linearize-point-spec : {M : Type 1} → statement M
@@ -50,7 +50,7 @@ pixel-step-linearize-point-spec =
     (λ c κs. search needs)
     returns
     rig-requires
-    dot-requires
+    correspondence-requires
     (λ c κs. search needs)
     (λ c κs. search needs)
     (λ c. search needs)

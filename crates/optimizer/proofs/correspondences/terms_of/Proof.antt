@@ -1,8 +1,8 @@
--- `optimizer::dots::terms_of` meets its contract. Assumes nothing.
+-- `optimizer::correspondences::terms_of` meets its contract. Assumes nothing.
 use Rattle.optimizer.specs.Problem.{blockOf}
 use borrow.Author.Needs.{needs}
-use Rattle.optimizer.proofs.dots.terms_of.Statement.{statement}
-use Rattle.optimizer.proofs.dots.terms_of.Tie as tie
+use Rattle.optimizer.proofs.correspondences.terms_of.Statement.{statement}
+use Rattle.optimizer.proofs.correspondences.terms_of.Tie as tie
 
 returns : tie.Need-returns
 unfolding blockOf

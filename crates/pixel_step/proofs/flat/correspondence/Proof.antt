@@ -1,15 +1,15 @@
--- `pixel_step::flat::dot` meets its contract. Assumes nothing.
-use Rattle.pixel_step.specs.Flat.{dot}
+-- `pixel_step::flat::correspondence` meets its contract. Assumes nothing.
+use Rattle.pixel_step.specs.Flat.{correspondence}
 use borrow.Author.Needs.{needs}
-use Rattle.pixel_step.proofs.flat.dot.Statement.{statement}
-use Rattle.pixel_step.proofs.flat.dot.Tie as tie
+use Rattle.pixel_step.proofs.flat.correspondence.Statement.{statement}
+use Rattle.pixel_step.proofs.flat.correspondence.Tie as tie
 
 returns : tie.Need-returns
-unfolding dot
+unfolding correspondence
 returns c = cc
 
-pub dot-spec : {M : Type 1} → statement M
-dot-spec =
+pub correspondence-spec : {M : Type 1} → statement M
+correspondence-spec =
     tie.close
     (tie.spec
     (λ c. search needs)

@@ -1,14 +1,14 @@
--- `record::run::dot_at` meets its contract. Assumes nothing.
+-- `record::run::correspondence_at` meets its contract. Assumes nothing.
 use native.Mathlib.Omega.{arith}
 use borrow.Author.Needs.{needs}
-use Rattle.record.proofs.run.dot_at.Statement.{statement}
-use Rattle.record.proofs.run.dot_at.Tie as tie
+use Rattle.record.proofs.run.correspondence_at.Statement.{statement}
+use Rattle.record.proofs.run.correspondence_at.Tie as tie
 
 returns : tie.Need-returns
 returns c = cc
 
-pub dot-at-spec : {M : Type 1} → statement M
-dot-at-spec =
+pub correspondence-at-spec : {M : Type 1} → statement M
+correspondence-at-spec =
     tie.close
     (tie.spec
     (λ c. omega arith)

@@ -1,14 +1,14 @@
 // SPDX-FileCopyrightText: 2026 Pierre Moulon and OpenMVG Rust contributors
 // SPDX-License-Identifier: MIT OR Apache-2.0
 
-// One dot of the lent lists: its point, what each view saw of it, and how a view projects it.
+// One correspondence of the lent lists: its point, what each view saw of it, and how a view projects it.
 ghost use mathlib.Core.Path.{_≡_};
 ghost use Prim.Native.Nat.{_<_, _≤_, _*_, _+_};
 ghost use lib.ListN.{length};
 ghost use Rattle.linearization.specs.Linearize as Linearize;
 ghost use Rattle.optimizer.specs.Problem as Problem;
 use crate::Rig;
-use linearization::Dot;
+use linearization::Correspondence;
 use linearization::LocalLinearization;
 use linearization::PointTerms;
 use projection::Projected;
@@ -39,18 +39,18 @@ pub(crate) fn observation<'a>(view1: &'a [f64], view2: &'a [f64], view: u32, i: 
     }
 }
 
-pub(crate) fn dot_at(
+pub(crate) fn correspondence_at(
     points: &[f64],
     view1: &[f64],
     view2: &[f64],
     inverse_deviations: &[f64],
     i: usize,
-) -> Dot
+) -> Correspondence
     requires { ⌜ (3 * i + 2 < length (now points)) × (2 * i + 1 < length (now view1)) × (2 * i + 1 < length (now view2))
         × (i < length (now «inverse_deviations»)) ⌝ }
-    ensures { λ r. ⌜ r ≡ Problem.dotAt (now (points .entry)) (now (view1 .entry)) (now (view2 .entry)) (now («inverse_deviations» .entry)) i ⌝ }
+    ensures { λ r. ⌜ r ≡ Problem.correspondenceAt (now (points .entry)) (now (view1 .entry)) (now (view2 .entry)) (now («inverse_deviations» .entry)) i ⌝ }
 {
-    Dot {
+    Correspondence {
         point: point_at(points, i),
         view1: pair_at(view1, i),
         view2: pair_at(view2, i),
@@ -58,24 +58,24 @@ pub(crate) fn dot_at(
     }
 }
 
-// The block of a dot
-pub(crate) fn block_of(rig: Rig, dot: Dot) -> LocalLinearization
-    ensures { λ r. ⌜ r ≡ Problem.blockOf rig dot ⌝ }
+// The block of a correspondence
+pub(crate) fn block_of(rig: Rig, correspondence: Correspondence) -> LocalLinearization
+    ensures { λ r. ⌜ r ≡ Problem.blockOf rig correspondence ⌝ }
 {
     let camera1 = rig.camera1;
     let camera2 = rig.camera2;
     let pose = rig.pose;
-    linearization::linearize_point(camera1, camera2, pose, dot)
+    linearization::linearize_point(camera1, camera2, pose, correspondence)
 }
 
-// What the step of a dot's point needs of its block
-pub(crate) fn terms_of(rig: Rig, dot: Dot) -> PointTerms
-    ensures { λ r. ⌜ r ≡ Linearize.pointTerms (Problem.blockOf rig dot) ⌝ }
+// What the step of a correspondence's point needs of its block
+pub(crate) fn terms_of(rig: Rig, correspondence: Correspondence) -> PointTerms
+    ensures { λ r. ⌜ r ≡ Linearize.pointTerms (Problem.blockOf rig correspondence) ⌝ }
 {
     let camera1 = rig.camera1;
     let camera2 = rig.camera2;
     let pose = rig.pose;
-    linearization::point_terms(camera1, camera2, pose, dot)
+    linearization::point_terms(camera1, camera2, pose, correspondence)
 }
 
 // A point as view 1 or 2 sees it

@@ -1,8 +1,8 @@
--- `optimizer::dots::block_of` meets its contract. Assumes nothing.
+-- `optimizer::correspondences::block_of` meets its contract. Assumes nothing.
 use Rattle.optimizer.specs.Problem.{blockOf}
 use borrow.Author.Needs.{needs}
-use Rattle.optimizer.proofs.dots.block_of.Statement.{statement}
-use Rattle.optimizer.proofs.dots.block_of.Tie as tie
+use Rattle.optimizer.proofs.correspondences.block_of.Statement.{statement}
+use Rattle.optimizer.proofs.correspondences.block_of.Tie as tie
 
 returns : tie.Need-returns
 unfolding blockOf

@@ -1,9 +1,9 @@
--- `optimizer::dots::project` meets its contract. Assumes nothing.
+-- `optimizer::correspondences::project` meets its contract. Assumes nothing.
 use Rattle.optimizer.specs.Problem.{project}
 use borrow.Author.Tests.{eq-eqb, ne-eqb}
 use borrow.Author.Needs.{needs}
-use Rattle.optimizer.proofs.dots.project.Statement.{statement}
-use Rattle.optimizer.proofs.dots.project.Tie as tie
+use Rattle.optimizer.proofs.correspondences.project.Statement.{statement}
+use Rattle.optimizer.proofs.correspondences.project.Tie as tie
 
 returns : tie.Need-returns
 unfolding project
