@@ -1,4 +1,4 @@
-// The form of a run record. Its fields are read by `reader`, which holds the bytes and a place and leaves the tests to `test_field`.
+// The form of a run record. Its fields are read by `reader`, which leaves the test of a field to `test_field`.
 ghost use mathlib.Core.List.{[], _∷_};
 ghost use mathlib.Core.Path.{_≡_};
 ghost use Prim.Native.Nat.{_≤_, _<_};

@@ -1,5 +1,5 @@
-// A reader that holds a record's bytes and its place in them.
-// The borrow checker covers no function over such a struct, so these are thin, and each is proved by a walk. The form is read by the two with plain parameters, whose callers need none.
+// A reader that holds a record's bytes and its place in them. The borrow checker covers no function over such a struct,
+// so these are thin, and each is proved by a walk. The last two have plain parameters: their callers need no walk.
 ghost use mathlib.Core.Path.{_≡_};
 ghost use Prim.Native.Nat.{_≤_};
 ghost use Rattle.record.specs.Form as Form;
