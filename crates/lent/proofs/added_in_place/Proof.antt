@@ -1,5 +1,5 @@
--- `lent::added_in_place` meets its contract: a walk of its MIR, by hand. The system stands in a local, which is lent by `&mut` for a lifetime that is made for the call of `add_to` and ended after it. The local comes back at the last value that `add_to`'s contract says.
--- All that the proof knows of `add_to` is that it meets its contract. No field is named: what a struct owns is made anew from its relation.
+-- `lent::added_in_place` meets its contract, by a walk of its MIR: the system is in a local, which is lent to `add_to` for a lifetime of that call alone, and comes back at the last value that the contract of `add_to` says. Nothing else of `add_to` is used.
+-- No field is named: what a struct owns is made anew from its relation wherever it is asked.
 -- Assumes nothing.
 use mathlib.Core.Path.{_≡_, refl, subst}
 use Prim.Native.Nat.{ℕ}
@@ -77,7 +77,7 @@ abbrev refusal-val : Refusal → Val
 refusal-val = LL.val R.the-type R′.the-laws
 
 module _ {M : Type 1} (𝓤 : URA M) (H : Heap 𝓤) (A : Atoms 𝓤) (at-mem : Memory → SProp 𝓤) (run : Routine → Fun 𝓤) where
-  -- the contract that the proof cites
+  -- the contract of `add_to`
   abbrev AddTo : Contract 𝓤
   AddTo = tripleOf 𝓤 H A add-to.signature (add-to.spec 𝓤 H A at-mem run)
 

@@ -1,5 +1,5 @@
--- `record::reader::field_refused` meets its contract: a walk of its MIR, by hand. A reader is made of the bytes and the place passed, in a local, and passed to `next_field`. All that the proof knows of `next_field` is that it meets its contract.
--- A `&[u8]` is Copy: what it owns is had twice, once for the exit and once inside the reader. In a local of a body MIR erases the lifetime of the reader's type.
+-- `record::reader::field_refused` meets its contract, by a walk of its MIR: it makes a reader of its slice and its place and calls `next_field`, of which only the contract is used.
+-- What the slice owns is needed twice, inside the reader and at the exit: a `&[u8]` is Copy.
 -- Assumes nothing.
 use mathlib.Core.Path.{_≡_, refl}
 use Prim.Native.Nat.{ℕ, _<_, _≤_, _^_}
@@ -55,7 +55,7 @@ use Rattle.record.proofs.reader.field_refused as refused
 use Rattle.record.proofs.reader.field_refused.Statement as stated
 use Rattle.record.proofs.reader.field_refused.Code as code
 
--- the struct's type, over the signature's lifetimes
+-- a reader's type at the function's lifetime
 abbrev B : Lfts 1 → RattleType
 B κs = T.the-row (namedLft 1 0 tt κs)
 
@@ -63,7 +63,7 @@ abbrev stayed : Stays (refused.ended .signature .params) (refused.ended .kept)
 stayed = (stay-none-slice (0 ∷ []) tt (plain (λ _. u8)) yes, (stay-none (λ _. u8) yes, (stay-none (λ _. usize) yes, (stay-none (λ _. usize) yes, tt))))
 
 module _ {M : Type 1} (𝓤 : URA M) (H : Heap 𝓤) (A : Atoms 𝓤) (mem : Memory → SProp 𝓤) (run : Routine → Fun 𝓤) where
-  -- the contract that the proof cites
+  -- `next_field`'s contract
   abbrev Next : Contract 𝓤
   Next = tripleOf 𝓤 H A next.signature (next.spec 𝓤 H A mem run)
 
@@ -97,7 +97,7 @@ module _ {M : Type 1} (𝓤 : URA M) (H : Heap 𝓤) (A : Atoms 𝓤) (W : Given
   abbrev Made : Fml
   Made = B (κ, tt) .own made (T′.lowered made ∷ [])
 
-  -- what the callee is passed
+  -- the call's arguments
   abbrev to : Next 𝓤 H A mem run .Ghost
   to = (((κ, tt), (q, tt), tt, (made, (t, (n, tt))), (T′.lowered made ∷ [], (vint w8 t ∷ [], (vint w64 n ∷ [], tt)))), tt)
 
@@ -106,7 +106,7 @@ module _ {M : Type 1} (𝓤 : URA M) (H : Heap 𝓤) (A : Atoms 𝓤) (W : Given
       qed W ((‵ (flft κ q) ⊛ ‵ ftrue) ∷ ‵ Made ∷ []) ∵ says ! ok $ frame ! $
       nothing ! $ owned ! usize (Is usize) (uint-makes 𝓤 H A W w64) n _ (refl, n-fits) $ fjoin ! $ owned ! u8 (Is u8) (uint-makes 𝓤 H A W w8) t _ (refl, t-fits) $ fjoin ! $ move ! (1 ∷ 0 ∷ []) $ fjoin ! $ done !
 
-  -- what the bytes own gives what the callee asks, and is kept
+  -- the entry gives what the call asks, and what the slice owns is kept
   together : ent 𝓤 (onEntry 𝓤 H A refused.signature (κ, tt) (q, tt) a vals) (sep 𝓤 (Next 𝓤 H A mem run .pre to) (sem 𝓤 H A Own))
   together =
       qed W ((‵ (flft κ q) ⊛ ‵ ftrue) ∷ ‵ (owns (ShrSlice (named 0) κ u8 ∷ u8 ∷ usize ∷ usize ∷ []) a vals) ∷ []) ∵
@@ -116,7 +116,7 @@ module _ {M : Type 1} (𝓤 : URA M) (H : Heap 𝓤) (A : Atoms 𝓤) (W : Given
       -- [the token; what the reader owns; what the bytes own]
       use2 W (raw (Next 𝓤 H A mem run .pre to)) asked $ frame ! $ done !
 
-  -- of the callee's `ensured`, the clause alone: it has no `&mut`, so what is said of last values is dropped
+  -- what the call says once it has returned
   said : (r : Refusal) → ent 𝓤 (ensured 𝓤 H A next.ended (next.clauses 𝓤 H A mem run) (κ, tt) (made, (t, (n, tt))) tt r) (fact 𝓤 (r ≡ found))
   said r = exE 𝓤 _ (λ ws. snd∗ 𝓤 (sem 𝓤 H A (lasts next.ended (κ, tt) (made, (t, (n, tt))) ws)) (fact 𝓤 (r ≡ found)))
 

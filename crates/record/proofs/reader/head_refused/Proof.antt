@@ -1,5 +1,5 @@
--- `record::reader::head_refused` meets its contract: a walk of its MIR, by hand. A reader is made at the record's beginning and goes past four fields; each of the five readers tests its field, and the first refusal is answered. All that the proof knows of the three functions called is that each meets its contract.
--- A reader is Copy: what it owns is had twice, once to go past its field and once to test it.
+-- `record::reader::head_refused` meets its contract, by a walk of its MIR. A reader is made at the record's beginning and goes past four fields; each of the five readers tests its field, and the first refusal is answered. Of the three functions called only the contracts are used.
+-- What a reader owns is needed twice, to go past its field and to test it: a reader is Copy.
 -- Assumes nothing.
 use mathlib.Core.Path.{_≡_, refl, _∙_}
 use Prim.Native.Nat.{ℕ, _<_, _≤_, _^_}
@@ -66,7 +66,7 @@ use Rattle.record.proofs.reader.head_refused as head
 use Rattle.record.proofs.reader.head_refused.Statement as stated
 use Rattle.record.proofs.reader.head_refused.Code as code
 
--- the struct's type, over the signature's lifetimes
+-- a reader's type at the function's lifetime
 abbrev B : Lfts 1 → RattleType
 B κs = T.the-row (namedLft 1 0 tt κs)
 
@@ -74,7 +74,7 @@ abbrev stayed : Stays (head.ended .signature .params) (head.ended .kept)
 stayed = (stay-none-slice (0 ∷ []) tt (plain (λ _. u8)) yes, tt)
 
 module _ {M : Type 1} (𝓤 : URA M) (H : Heap 𝓤) (A : Atoms 𝓤) (mem : Memory → SProp 𝓤) (run : Routine → Fun 𝓤) where
-  -- the contracts that the proof cites
+  -- the contracts of `past`, `next_field` and `first_of`
   abbrev Past : Contract 𝓤
   Past = tripleOf 𝓤 H A past.signature (past.spec 𝓤 H A mem run)
 

@@ -1,5 +1,5 @@
--- `record::reader::next_field` meets its contract: a walk of its MIR, by hand. The reader is taken apart, and `test_field` is called on its bytes and its place. All that the proof knows of `test_field` is that it meets its contract.
--- A reader is Copy: what it owns is had twice, one copy is kept whole for the exit, and of the other what the bytes own goes to the callee, beside the lifetime's token, which comes back.
+-- `record::reader::next_field` meets its contract, by a walk of its MIR: it reads the reader's two fields, calls `test_field` and answers what that answers. Of `test_field` only the contract is used.
+-- What the reader owns is needed twice, for the call and at the exit: a reader is Copy.
 -- Assumes nothing.
 use mathlib.Core.Path.{_≡_, refl}
 use Prim.Native.Nat.{ℕ, _<_, _≤_, _^_}
@@ -58,7 +58,7 @@ use Rattle.record.proofs.reader.next_field as next
 use Rattle.record.proofs.reader.next_field.Statement as stated
 use Rattle.record.proofs.reader.next_field.Code as code
 
--- the struct's type, over the signature's lifetimes
+-- a reader's type at the function's lifetime
 abbrev B : Lfts 1 → RattleType
 B κs = T.the-row (namedLft 1 0 tt κs)
 
@@ -66,7 +66,7 @@ abbrev stayed : Stays (next.ended .signature .params) (next.ended .kept)
 stayed = (stay-none B yes, (stay-none (λ _. u8) yes, (stay-none (λ _. usize) yes, tt)))
 
 module _ {M : Type 1} (𝓤 : URA M) (H : Heap 𝓤) (A : Atoms 𝓤) (mem : Memory → SProp 𝓤) (run : Routine → Fun 𝓤) where
-  -- the contract that the proof cites
+  -- `test_field`'s contract
   abbrev Test : Contract 𝓤
   Test = tripleOf 𝓤 H A test.signature (test.spec 𝓤 H A mem run)
 
@@ -91,7 +91,7 @@ module _ {M : Type 1} (𝓤 : URA M) (H : Heap 𝓤) (A : Atoms 𝓤) (W : Given
   abbrev Own : Fml
   Own = B (κ, tt) .own d (mach ∷ [])
 
-  -- the struct's type and laws, and the values of d's fields
+  -- a reader's declared type, its laws, and d's fields in their order
   abbrev D : Declared
   D = T.the-type (namedLft 1 0 tt (κ, tt))
 
@@ -101,7 +101,7 @@ module _ {M : Type 1} (𝓤 : URA M) (H : Heap 𝓤) (A : Atoms 𝓤) (W : Given
   abbrev vd : Values (D .parts)
   vd = (d .«record», (d .at, tt))
 
-  -- what the callee is passed
+  -- the call's arguments
   abbrev passed : Vals test.signature (κ, tt)
   passed = (v ∷ [], (vint w8 t ∷ [], (vint w64 n ∷ [], (vint w64 (d .at) ∷ [], tt))))
 
@@ -114,7 +114,7 @@ module _ {M : Type 1} (𝓤 : URA M) (H : Heap 𝓤) (A : Atoms 𝓤) (W : Given
       nothing ! $ owned ! usize (Is usize) (uint-makes 𝓤 H A W w64) (d .at) _ (refl, at-fits) $ fjoin ! $ owned ! usize (Is usize) (uint-makes 𝓤 H A W w64) n _ (refl, n-fits) $ fjoin ! $
       owned ! u8 (Is u8) (uint-makes 𝓤 H A W w8) t _ (refl, t-fits) $ fjoin ! $ move ! (1 ∷ 0 ∷ []) $ fjoin ! $ done !
 
-  -- what the reader owns gives what the callee asks, and is kept
+  -- the entry gives what the call asks, and what the reader owns is kept
   apart : d .at < 2 ^ 64 → ent 𝓤 (onEntry 𝓤 H A next.signature (κ, tt) (q, tt) (d, (t, (n, tt))) vals) (sep 𝓤 (Test 𝓤 H A mem run .pre to) (sem 𝓤 H A Own))
   apart at-fits =
       qed W ((‵ (flft κ q) ⊛ ‵ ftrue) ∷ ‵ (owns (B (κ, tt) ∷ u8 ∷ usize ∷ []) (d, (t, (n, tt))) vals) ∷ []) ∵
@@ -124,7 +124,7 @@ module _ {M : Type 1} (𝓤 : URA M) (H : Heap 𝓤) (A : Atoms 𝓤) (W : Given
       -- [the token; what the bytes own; what the reader owns]
       use2 W (raw (Test 𝓤 H A mem run .pre to)) (asked at-fits) $ frame ! $ done !)
 
-  -- of the callee's `ensured`, the clause alone: it has no `&mut`, so what is said of last values is dropped
+  -- what the call says once it has returned
   said : (r : Refusal) → ent 𝓤 (ensured 𝓤 H A test.ended (test.clauses 𝓤 H A mem run) (κ, tt) (d .«record», (t, (n, (d .at, tt)))) tt r) (fact 𝓤 (r ≡ found))
   said r = exE 𝓤 _ (λ ws. snd∗ 𝓤 (sem 𝓤 H A (lasts test.ended (κ, tt) (d .«record», (t, (n, (d .at, tt)))) ws)) (fact 𝓤 (r ≡ found)))
 

@@ -1,5 +1,5 @@
--- `record::reader::past` meets its contract: a walk of its MIR, by hand. A reader is made anew of the bytes that the one passed holds, and the place behind the field.
--- A reader is Copy: what it owns is had twice, one copy is kept whole for the exit, and the other, with the facts of the new place, is what the result owns.
+-- `record::reader::past` meets its contract, by a walk of its MIR: it adds to the place, and makes a reader of the same slice there.
+-- What the old reader owns is needed twice, for the new one and at the exit: a reader is Copy.
 -- Assumes nothing.
 use mathlib.Core.Path.{refl}
 use Prim.Native.Nat.{ℕ, _+_, _<_, _≤_, _^_}
@@ -44,7 +44,7 @@ use Rattle.record.proofs.reader.past as f
 use Rattle.record.proofs.reader.past.Statement as stated
 use Rattle.record.proofs.reader.past.Code as code
 
--- the struct's type, over the signature's lifetimes
+-- a reader's type at the function's lifetime
 abbrev B : Lfts 1 → RattleType
 B κs = T.the-row (namedLft 1 0 tt κs)
 
@@ -76,7 +76,7 @@ module _ {M : Type 1} (𝓤 : URA M) (H : Heap 𝓤) (A : Atoms 𝓤) (W : Given
       qed W ((‵ (flft κ q) ⊛ ‵ ftrue) ∷ ‵ (owns (B (κ, tt) ∷ usize ∷ []) (d, (n, tt)) vals) ∷ []) ∵
       suffices ! _ (ends-at 𝓤 H A f.ended stayed (f.clauses 𝓤 H A mem run) W (((κ, tt), (q, tt), tt, (d, (n, tt)), vals), tt) (T′.lowered (past d n)) (past d n) (tt, (tt, tt)) (tt, (tt, tt))) $ says ! refl $
       frame ! $ fsplit ! $ use1 W (‵ Own ⊛ ‵ Own) (LL.copy (T.the-type (namedLft 1 0 tt (κ, tt))) (T′.the-copy (namedLft 1 0 tt (κ, tt))) 𝓤 H A W .twice d (mach ∷ [])) $ split ! $ move ! (0 ∷ 2 ∷ []) $ fjoin ! $ frame ! $
-      -- [what the reader owns]: the new place's facts take the place of the old one's
+      -- [what the reader owns]: only its place is another
       owned ! usize (Is usize) (uint-makes 𝓤 H A W w64) (d .at + 3 + n) _ (refl, place-fits) $ move ! (1 ∷ 0 ∷ []) $
       by ! (own-put 𝓤 H A W (T.the-type (namedLft 1 0 tt (κ, tt))) (T′.the-laws (namedLft 1 0 tt (κ, tt))) 1 (d .«record», (d .at, tt)) (d .at + 3 + n) mach)
 

@@ -1,5 +1,5 @@
--- `schur::lent::add_to` meets its contract: a walk of its MIR, by hand. The borrow is opened, the system is copied out, `add` is called on the copy, the system that it answers is stored, and the borrow is closed at it.
--- All that the proof knows of `add` is that it meets its contract. No field is named: what a struct owns is made anew from its relation.
+-- `schur::lent::add_to` meets its contract, by a walk of its MIR: it copies the system out of the borrow, calls `add` on the copy and stores the system that this answers. Of `add` only the contract is used.
+-- No field is named: what a struct owns is made anew from its relation wherever it is asked.
 -- Assumes nothing.
 use mathlib.Core.Path.{_≡_, refl, ap}
 use Prim.Native.Nat.{ℕ}
@@ -65,11 +65,11 @@ abbrev stayed : Stays (f.ended .signature .params) (f.ended .kept)
 stayed = (stay-ref (0 ∷ []) tt (plain (λ _. T.the-row)), (stay-none (λ _. L.the-row) yes, (stay-none (λ _. f64) yes, tt)))
 
 module _ {M : Type 1} (𝓤 : URA M) (H : Heap 𝓤) (A : Atoms 𝓤) (at-mem : Memory → SProp 𝓤) (run : Routine → Fun 𝓤) where
-  -- the contract that the proof cites
+  -- the contract of `add`
   abbrev Add : Contract 𝓤
   Add = tripleOf 𝓤 H A add.signature (add.spec 𝓤 H A at-mem run)
 
-  -- of its `ensured`, the clause alone: it has no `&mut`, so what is said of last values is dropped
+  -- what the call says once it has returned
   said : (h : ReducedSystem) (l : LocalLinearization) (d : Float) (a : Added)
       → ent 𝓤 (ensured 𝓤 H A add.ended (add.clauses 𝓤 H A at-mem run) tt (h, (l, (d, tt))) tt a) (fact 𝓤 (a ≡ System.add h l d))
   said h l d a = exE 𝓤 _ (λ ws. snd∗ 𝓤 (sem 𝓤 H A (lasts add.ended tt (h, (l, (d, tt))) ws)) (fact 𝓤 (a ≡ System.add h l d)))
