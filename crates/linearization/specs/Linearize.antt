@@ -35,16 +35,26 @@ notMade r = record {
 abbrev pub poseRows : View1 → List Float
 poseRows a = tabulate 10 (λ i. a .pose)
 
+-- what the step of a point needs of its block
+unfoldable pub terms : View1 → View2 → PointTerms
+terms a b = record {
+  «cross_hessian» = crossHessian (poseRows a) (a .point) (b .pose) (b .point);
+  «point_hessian» = pointHessian (a .point) (b .point);
+  «point_gradient» = pointProducts (a .point) (a .residual) (b .point) (b .residual);
+  refusal = none;
+}
+
 unfoldable pub sums : LinearizedViews → Float → Float → LocalLinearization
 sums v cost squared =
     let a = v .first in
     let b = v .second in
+    let t = terms a b in
     record {
       «pose_hessian» = poseHessian (poseRows a) (b .pose);
-      «cross_hessian» = crossHessian (poseRows a) (a .point) (b .pose) (b .point);
-      «point_hessian» = pointHessian (a .point) (b .point);
+      «cross_hessian» = t .«cross_hessian»;
+      «point_hessian» = t .«point_hessian»;
       «pose_gradient» = poseProducts (poseRows a) (a .residual) (b .pose) (b .residual);
-      «point_gradient» = pointProducts (a .point) (a .residual) (b .point) (b .residual);
+      «point_gradient» = t .«point_gradient»;
       cost = cost;
       «squared_residual» = squared;
       refusal = none;
@@ -62,13 +72,11 @@ linearizePoint camera1 camera2 pose correspondence =
     let v = linearizeViews camera1 camera2 pose correspondence in
     cond (isNone (v .refusal)) (block v (correspondence .«inverse_deviation»)) (notMade (v .refusal))
 
--- what the step of a point needs of its block
+-- the same terms of a block that is made
 unfoldable pub pointTerms : LocalLinearization → PointTerms
-pointTerms b = record { «cross_hessian» = b .«cross_hessian»; «point_hessian» = b .«point_hessian»; «point_gradient» = b .«point_gradient» }
-
-unfoldable pub terms : View1 → View2 → PointTerms
-terms a b = record {
-  «cross_hessian» = crossHessian (poseRows a) (a .point) (b .pose) (b .point);
-  «point_hessian» = pointHessian (a .point) (b .point);
-  «point_gradient» = pointProducts (a .point) (a .residual) (b .point) (b .residual);
+pointTerms b = record {
+  «cross_hessian» = b .«cross_hessian»;
+  «point_hessian» = b .«point_hessian»;
+  «point_gradient» = b .«point_gradient»;
+  refusal = b .refusal;
 }

@@ -13,14 +13,17 @@ use crate::views::Pose;
 use crate::views::View1;
 use crate::views::View2;
 use projection::PinholeCamera;
+use refusal::Refusal;
 
+// Beside a refusal every number is +0.
 pub struct PointTerms {
     pub cross_hessian: [f64; 15],
     pub point_hessian: [f64; 9],
     pub point_gradient: [f64; 3],
+    pub refusal: Refusal,
 }
 
-// The terms of a correspondence's block, each +0 where the block is refused
+// The terms of a correspondence's block. Tests row 4, then row 9 with view 1 or 2.
 pub fn point_terms(
     camera1: PinholeCamera,
     camera2: PinholeCamera,
@@ -36,6 +39,7 @@ pub fn point_terms(
             cross_hessian: [0.0; 15],
             point_hessian: [0.0; 9],
             point_gradient: [0.0; 3],
+            refusal,
         };
     }
     let a = views.first;
@@ -50,10 +54,12 @@ pub fn terms_of(local: LocalLinearization) -> PointTerms
     let cross_hessian = local.cross_hessian;
     let point_hessian = local.point_hessian;
     let point_gradient = local.point_gradient;
+    let refusal = local.refusal;
     PointTerms {
         cross_hessian,
         point_hessian,
         point_gradient,
+        refusal,
     }
 }
 
@@ -71,5 +77,6 @@ pub(crate) fn terms(a: View1, b: View2) -> PointTerms
         cross_hessian: accumulate::cross_hessian(x, p, y, q),
         point_hessian: accumulate::point_hessian(p, q),
         point_gradient: accumulate::point_products(p, r, q, s),
+        refusal: Refusal::none(),
     }
 }

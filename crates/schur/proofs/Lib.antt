@@ -1,4 +1,4 @@
--- Laws of the blocks.
+-- Laws of the system, and the claim on lists.
 pub mod Elimination
 pub mod Adding
 pub mod Damped

@@ -1,5 +1,5 @@
 -- The reduced system, `ReducedSystem` of schur.rs: `new` and `add`. Document 01, "The system".
-use Prim.Native.Nat.{ℕ, suc, _+_, _*_, _/_, _%_}
+use Prim.Native.Nat.{ℕ, suc, _+_, _*_, _/_, _%_, _<_, _≤_}
 use mathlib.Core.Bool.{Bool, true, false, cond}
 use mathlib.Core.List.{List, [], _∷_}
 use lib.Dec.{leb, ltb}
@@ -23,6 +23,10 @@ use Rattle.schur.specs.declared.system.Eliminated.{Eliminated}
 -- the most blocks that a system takes in
 abbrev pub maxBlocks : ℕ
 maxBlocks = 65535
+
+-- a system that takes one more block in: rows 12 and 13 do not refuse it
+abbrev pub Free : ReducedSystem → Type 0
+Free s = (s .«block_count» < maxBlocks) × (s .«weak_point_count» ≤ s .«block_count»)
 
 unfoldable pub newSystem : ReducedSystem
 newSystem = record {

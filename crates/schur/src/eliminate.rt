@@ -40,37 +40,17 @@ pub fn reduced_hessian(
 {
     let p = local.pose_hessian;
     let c = local.cross_hessian;
+    let x0 = factor.solve([c[0], c[1], c[2]]);
+    let x1 = factor.solve([c[3], c[4], c[5]]);
+    let x2 = factor.solve([c[6], c[7], c[8]]);
+    let x3 = factor.solve([c[9], c[10], c[11]]);
+    let x4 = factor.solve([c[12], c[13], c[14]]);
     linearization::from_columns(
-        reduced(
-            column(h, 0),
-            column(p, 0),
-            c,
-            factor.solve([c[0], c[1], c[2]]),
-        ),
-        reduced(
-            column(h, 1),
-            column(p, 1),
-            c,
-            factor.solve([c[3], c[4], c[5]]),
-        ),
-        reduced(
-            column(h, 2),
-            column(p, 2),
-            c,
-            factor.solve([c[6], c[7], c[8]]),
-        ),
-        reduced(
-            column(h, 3),
-            column(p, 3),
-            c,
-            factor.solve([c[9], c[10], c[11]]),
-        ),
-        reduced(
-            column(h, 4),
-            column(p, 4),
-            c,
-            factor.solve([c[12], c[13], c[14]]),
-        ),
+        reduced(column(h, 0), column(p, 0), c, x0),
+        reduced(column(h, 1), column(p, 1), c, x1),
+        reduced(column(h, 2), column(p, 2), c, x2),
+        reduced(column(h, 3), column(p, 3), c, x3),
+        reduced(column(h, 4), column(p, 4), c, x4),
     )
 }
 

@@ -4,7 +4,7 @@
 // The reduced system: the 5 by 5 equations of the pose once each point is eliminated.
 ghost use mathlib.Core.Bool.{cond};
 ghost use mathlib.Core.Path.{_≡_};
-ghost use Prim.Native.Nat.{_<_, _≤_};
+ghost use Prim.Native.Nat.{_<_};
 ghost use Rattle.number.specs.Binary64 as Binary64;
 ghost use Rattle.schur.specs.Model as Model;
 ghost use Rattle.schur.specs.System as System;
@@ -43,7 +43,7 @@ pub struct Eliminated {
     pub valid: bool,
 }
 
-// A system after a call of `add`, with that call's refusal
+// A system after a call of `add` or `finish_damping`, with that call's refusal
 pub struct Added {
     pub system: ReducedSystem,
     pub refusal: Refusal,
@@ -184,7 +184,7 @@ impl ReducedSystem {
     }
 
     fn taken(self, local: LocalLinearization, damping: f64) -> Self
-        requires { ⌜ (self .«block_count» < 65535) × (self .«weak_point_count» ≤ self .«block_count») ⌝ }
+        requires { ⌜ System.Free self ⌝ }
         ensures { λ r. ⌜ r ≡ System.taken self local damping ⌝ }
     {
         let change = self.elimination(local, damping);
@@ -192,7 +192,7 @@ impl ReducedSystem {
     }
 
     fn elimination(self, local: LocalLinearization, damping: f64) -> Eliminated
-        requires { ⌜ (self .«block_count» < 65535) × (self .«weak_point_count» ≤ self .«block_count») ⌝ }
+        requires { ⌜ System.Free self ⌝ }
         ensures { λ r. ⌜ r ≡ System.elimination self local damping ⌝ }
     {
         let matrix = local.point_hessian;
@@ -212,7 +212,7 @@ impl ReducedSystem {
         damping: f64,
         factor: PointBlockFactor,
     ) -> Eliminated
-        requires { ⌜ (self .«block_count» < 65535) × (self .«weak_point_count» ≤ self .«block_count») ⌝ }
+        requires { ⌜ System.Free self ⌝ }
         ensures { λ r. ⌜ r ≡ System.eliminated self local damping (factor .inverse) ⌝ }
     {
         let h = self.hessian;
@@ -240,7 +240,7 @@ impl ReducedSystem {
 
     // A block that does not factor: it clears the flag, and at damping zero it is weak with an rcond of 0.
     fn not_eliminated(self, damping: f64) -> Eliminated
-        requires { ⌜ (self .«block_count» < 65535) × (self .«weak_point_count» ≤ self .«block_count») ⌝ }
+        requires { ⌜ System.Free self ⌝ }
         ensures { λ r. ⌜ r ≡ System.notEliminated self damping ⌝ }
     {
         let hessian = self.hessian;
@@ -258,7 +258,7 @@ impl ReducedSystem {
 
     // Takes in what every block brings, beside what elimination changes.
     fn taken_with(self, local: LocalLinearization, change: Eliminated) -> Self
-        requires { ⌜ self .«block_count» < 65535 ⌝ }
+        requires { ⌜ self .«block_count» < System.maxBlocks ⌝ }
         ensures { λ r. ⌜ r ≡ System.takenWith self local change ⌝ }
     {
         let hessian = change.hessian;
@@ -300,7 +300,7 @@ impl ReducedSystem {
 }
 
 fn raised(by_one: bool, count: u16) -> u16
-    requires { ⌜ count < 65535 ⌝ }
+    requires { ⌜ count < System.maxBlocks ⌝ }
     ensures { λ r. ⌜ r ≡ System.raised «by_one» count ⌝ }
 {
     if by_one { count + 1 } else { count }
