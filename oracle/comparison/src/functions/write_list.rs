@@ -1,11 +1,11 @@
 //! `write_list`: the list of a run record, the line of a refused one included,
 //! in rooms that it fits and in shorter ones, which have to stay as they were.
 
-use oracle::generate::Source;
+use oracle::generate::{Source, plate};
 use oracle::record;
-use oracle::records::any_record;
+use oracle::records::{any_record, starts};
 
-use crate::function::{Answer, Argument, Function, Kind, give, open, returned_word};
+use crate::function::{Answer, Argument, Function, Kind, Walk, give, open, returned_word};
 use crate::input::{Input, bytes, fill};
 use crate::memory::{Lent, Rooms};
 
@@ -19,6 +19,39 @@ const ARGUMENTS: [Argument; 3] = [
 ];
 
 pub const FUNCTION: Function = function::<Port>();
+
+/// The good record that is cut and broken has so many points, and bytes.
+const POINTS: usize = 7;
+const LENGTH: usize = 255 + 67 * POINTS;
+
+/// Every prefix of a good record, then every other byte in the place of each tag
+/// and length of its fields.
+const EVERY_CUT_AND_START: Walk = Walk {
+    count: (LENGTH + 1 + (5 + POINTS) * 3 * 255) as u64,
+    input: |case, _| {
+        let mut record = good_record();
+        match (case as usize).checked_sub(LENGTH + 1) {
+            None => record.truncate(case as usize),
+            Some(change) => {
+                let byte = &mut record[starts(POINTS)[change / 765] + change / 255 % 3];
+                *byte = byte.wrapping_add((change % 255 + 1) as u8);
+            }
+        }
+        of_record(record, ROOM)
+    },
+};
+
+fn good_record() -> Vec<u8> {
+    let mut case = plate(&mut Source::new(1), POINTS);
+    case.damping = 0.0;
+    oracle::records::record(&case)
+}
+
+/// A record, with a room of so many bytes.
+fn of_record(record: Vec<u8>, room: usize) -> Input {
+    let record = record.into_iter().map(u64::from).collect();
+    Input(vec![record, vec![fill(Kind::ByteRoom); room]])
+}
 
 /// The call: writes the list into the front of `out` if it fits there, and gives
 /// its length.
@@ -40,11 +73,11 @@ const fn function<Call: WriteList>() -> Function {
         name: "write_list",
         arguments: &ARGUMENTS,
         rows: &[],
-        walk: None,
+        walk: Some(EVERY_CUT_AND_START),
         generate: |source| {
-            let record = any_record(source).into_iter().map(u64::from).collect();
+            let record = any_record(source);
             let room = room(source);
-            Input(vec![record, vec![fill(Kind::ByteRoom); room]])
+            of_record(record, room)
         },
         port: call::<Call>,
         oracle: answer,
@@ -150,7 +183,8 @@ mod tests {
 
     /// How many of the seeded cases differ, and the first that does.
     fn differences(function: &Function) -> (u64, Option<Input>) {
-        let inputs = (0..CASES).map(|case| function.input(3, case));
+        let first = function.walked();
+        let inputs = (first..first + CASES).map(|case| function.input(3, case));
         let mut differ = inputs.filter(|input| {
             let answer = (function.oracle)(input);
             check(function, input, &answer).is_some()
@@ -180,7 +214,7 @@ mod tests {
     #[test]
     fn every_answer_comes_up() {
         let mut seen = BTreeMap::new();
-        for case in 0..CASES {
+        for case in FUNCTION.walked()..FUNCTION.count(CASES) {
             let record = bytes(&FUNCTION.input(3, case).0[0]);
             let row = record::lines(&record).err().map(|refusal| refusal.number);
             *seen.entry(row).or_insert(0) += 1;
@@ -188,6 +222,19 @@ mod tests {
         let rows: Vec<_> = seen.keys().flatten().copied().collect();
         assert_eq!(rows, [3, 4, 5, 6, 7, 8, 9, 14, 15], "{seen:?}");
         assert!(seen[&None] >= 50, "{seen:?}");
+    }
+
+    /// Only the whole record and those cut at a point with five or more before
+    /// it have a list; every broken start is refused with row 15.
+    #[test]
+    fn cut_and_broken_records_are_refused() {
+        assert_eq!(good_record().len(), LENGTH);
+        let lists = (0..FUNCTION.walked()).filter(|&case| {
+            let record = bytes(&FUNCTION.input(3, case).0[0]);
+            record::lines(&record).is_ok()
+        });
+        let cut = [5, 6, 7].map(|points| 255 + 67 * points);
+        assert_eq!(lists.collect::<Vec<_>>(), cut);
     }
 
     /// 512 dots, all weak.
