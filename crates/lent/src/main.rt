@@ -143,14 +143,8 @@ fn numbers(name: &[u8], a: f64, b: f64) {
 }
 
 fn pair(name: &[u8], a: u64, b: u64) {
-    io::write_all(1, name);
-    column(a);
-    column(b);
-    io::write_all(1, b"\n");
-}
-
-fn column(bits: u64) {
-    io::write_all(1, b" ");
-    let digits = hex::digits(bits);
-    io::write_all(1, &digits);
+    show::text(name);
+    show::pattern(a);
+    show::pattern(b);
+    show::end();
 }
