@@ -57,7 +57,7 @@ fn roots_of(values: &[f64], roots: &mut [f64], root: impl Fn(f64) -> f64) {
 }
 
 fn project(problem: &Problem<'_>, budget: Budget) -> Pair {
-    let camera = &problem.case.head.cameras[0];
+    let camera = &problem.case.rig.cameras[0];
     let rust = |i| problem.prepared.project(i);
     let port = |i, out: &mut [f64; 8]| {
         slices::pixel_projection(camera, problem.view1(i), problem.point(i), out)
@@ -79,7 +79,7 @@ fn factor(problem: &Problem<'_>, budget: Budget) -> Pair {
 fn make_block(problem: &Problem<'_>, budget: Budget) -> Pair {
     let rust = |i| problem.prepared.block(i);
     let port = |i: usize, out: &mut [f64; 59]| {
-        slices::linearize_point(&problem.rig, &problem.dots[i], out)
+        slices::linearize_point(&problem.rig, &problem.correspondences[i], out)
     };
     let flat = |block: Option<OwnBlock>| block.map(|b| b.flat().numbers());
     over(problem, budget, rust, port, flat)

@@ -7,7 +7,7 @@ use oracle::optimizer::timed::{OwnBlock, OwnSystem, Prepared};
 /// The seed of every plate: a sound rig, up to 0.5 pixels of noise.
 const SEED: u64 = 7;
 
-/// A sound plate of `n` dots at a damping.
+/// A sound plate of `n` correspondences at a damping.
 pub fn case(n: usize, damping: f64) -> Case {
     let mut case = plate(&mut Source::new(SEED), n);
     case.damping = damping;
@@ -19,7 +19,7 @@ pub struct Problem<'a> {
     pub case: &'a Case,
     pub prepared: Prepared<'a>,
     pub rig: [f64; 29],
-    pub dots: Vec<[f64; 8]>,
+    pub correspondences: Vec<[f64; 8]>,
     pub own_blocks: Vec<OwnBlock>,
     pub blocks: Vec<[f64; 59]>,
     pub own_matrices: Vec<[[f64; 3]; 3]>,
@@ -38,8 +38,10 @@ impl<'a> Problem<'a> {
         assert!(flat.clone().all(|block| block.squared_residual > 0.0));
         Self {
             case,
-            rig: case.head.numbers(),
-            dots: indices.map(|index| case.dot(index).numbers()).collect(),
+            rig: case.rig.numbers(),
+            correspondences: indices
+                .map(|index| case.correspondence(index).numbers())
+                .collect(),
             blocks: flat.clone().map(|block| block.numbers()).collect(),
             matrices: flat.map(|block| block.point_hessian).collect(),
             own_matrices: own_blocks.iter().map(OwnBlock::matrix).collect(),

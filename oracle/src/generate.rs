@@ -4,7 +4,7 @@
 
 use crate::optimizer::{Plate, norm};
 use crate::projection::{Camera, pixel_projection, tangent_basis};
-use crate::schur::{Block, Dot, Head, System};
+use crate::schur::{Block, Correspondence, Rig, System};
 
 /// 2 to the given power, which is that of a normal number.
 const fn two_to(exponent: i64) -> f64 {
@@ -233,7 +233,7 @@ fn direction(source: &mut Source) -> [f64; 3] {
 
 /// Two cameras, a small rotation, a translation of about unit length with its
 /// tangent basis, and the baseline as the original computes it.
-pub fn head(source: &mut Source) -> Head {
+pub fn rig(source: &mut Source) -> Rig {
     let unit = direction(source);
     let scale = if source.once_in(2) {
         1.0
@@ -242,7 +242,7 @@ pub fn head(source: &mut Source) -> Head {
     };
     let translation = unit.map(|value| value * scale);
     let mut angle = || source.between(-0.1, 0.1);
-    Head {
+    Rig {
         rotation: rotation(angle(), angle(), angle()),
         cameras: [camera(source), camera(source)],
         translation,
@@ -252,12 +252,12 @@ pub fn head(source: &mut Source) -> Head {
 }
 
 /// Where a point stands in the second camera's frame.
-fn moved(head: &Head, point: &[f64; 3]) -> [f64; 3] {
+fn moved(rig: &Rig, point: &[f64; 3]) -> [f64; 3] {
     std::array::from_fn(|row| {
         (0..3)
-            .map(|column| head.rotation[3 * row + column] * point[column])
+            .map(|column| rig.rotation[3 * row + column] * point[column])
             .sum::<f64>()
-            + head.translation[row]
+            + rig.translation[row]
     })
 }
 
@@ -267,12 +267,12 @@ fn seen(camera: &Camera, point: &[f64; 3]) -> [f64; 2] {
 }
 
 /// A point as both cameras see it, off by up to `noise` pixels.
-pub fn observed(source: &mut Source, head: &Head, point: [f64; 3], noise: f64) -> Dot {
+pub fn observed(source: &mut Source, rig: &Rig, point: [f64; 3], noise: f64) -> Correspondence {
     let mut off = |pixel: [f64; 2]| pixel.map(|value| value + source.between(-noise, noise));
-    Dot {
+    Correspondence {
         point,
-        view1: off(seen(&head.cameras[0], &point)),
-        view2: off(seen(&head.cameras[1], &moved(head, &point))),
+        view1: off(seen(&rig.cameras[0], &point)),
+        view2: off(seen(&rig.cameras[1], &moved(rig, &point))),
         inverse_deviation: match source.below(4) {
             0 => 1.0,
             1 => 2.0,
@@ -296,7 +296,7 @@ pub fn damping(source: &mut Source) -> f64 {
 /// A plate with everything that a whole step is lent.
 #[derive(Clone, Debug)]
 pub struct Case {
-    pub head: Head,
+    pub rig: Rig,
     pub damping: f64,
     pub points: Vec<f64>,
     pub view1: Vec<f64>,
@@ -305,9 +305,9 @@ pub struct Case {
 }
 
 impl Case {
-    fn new(head: Head, damping: f64) -> Self {
+    fn new(rig: Rig, damping: f64) -> Self {
         Self {
-            head,
+            rig,
             damping,
             points: Vec::new(),
             view1: Vec::new(),
@@ -316,17 +316,18 @@ impl Case {
         }
     }
 
-    fn push(&mut self, dot: Dot) {
-        self.points.extend(dot.point);
-        self.view1.extend(dot.view1);
-        self.view2.extend(dot.view2);
-        self.inverse_deviations.push(dot.inverse_deviation);
+    fn push(&mut self, correspondence: Correspondence) {
+        self.points.extend(correspondence.point);
+        self.view1.extend(correspondence.view1);
+        self.view2.extend(correspondence.view2);
+        self.inverse_deviations
+            .push(correspondence.inverse_deviation);
     }
 
     /// As the whole step takes it.
     pub fn plate(&self) -> Plate<'_> {
         Plate {
-            head: self.head,
+            rig: self.rig,
             damping: self.damping,
             points: &self.points,
             view1: &self.view1,
@@ -335,9 +336,9 @@ impl Case {
         }
     }
 
-    /// One dot of it; the lengths must belong to one count.
-    pub fn dot(&self, index: usize) -> Dot {
-        Dot {
+    /// One correspondence of it; the lengths must belong to one count.
+    pub fn correspondence(&self, index: usize) -> Correspondence {
+        Correspondence {
             point: self.points.as_chunks().0[index],
             view1: self.view1.as_chunks().0[index],
             view2: self.view2.as_chunks().0[index],
@@ -345,21 +346,21 @@ impl Case {
         }
     }
 
-    /// How many dots.
+    /// How many correspondences.
     pub fn count(&self) -> usize {
         self.inverse_deviations.len()
     }
 
     /// Every number of the case, to be changed in place.
     pub fn places(&mut self) -> Vec<&mut f64> {
-        let head = &mut self.head;
-        head.cameras
+        let rig = &mut self.rig;
+        rig.cameras
             .as_flattened_mut()
             .iter_mut()
-            .chain(&mut head.rotation)
-            .chain(&mut head.translation)
-            .chain(&mut head.basis)
-            .chain([&mut head.baseline, &mut self.damping])
+            .chain(&mut rig.rotation)
+            .chain(&mut rig.translation)
+            .chain(&mut rig.basis)
+            .chain([&mut rig.baseline, &mut self.damping])
             .chain(&mut self.points)
             .chain(&mut self.view1)
             .chain(&mut self.view2)
@@ -368,7 +369,7 @@ impl Case {
     }
 }
 
-/// The dots of a plate: a tilted grid about four to eight units away.
+/// The correspondences of a plate: a tilted grid about four to eight units away.
 fn grid(source: &mut Source, n: usize) -> Vec<[f64; 3]> {
     let width = (1..).find(|width| width * width >= n).unwrap_or(1);
     let (depth, tilt) = (source.between(4.0, 8.0), source.between(-0.3, 0.3));
@@ -383,13 +384,13 @@ fn grid(source: &mut Source, n: usize) -> Vec<[f64; 3]> {
         .collect()
 }
 
-/// A sound head over a plate of `n` dots, seen with noise.
+/// A sound rig over a plate of `n` correspondences, seen with noise.
 pub fn plate(source: &mut Source, n: usize) -> Case {
-    let mut case = Case::new(head(source), damping(source));
+    let mut case = Case::new(rig(source), damping(source));
     let noise = if source.once_in(6) { 0.0 } else { 0.5 };
     for point in grid(source, n) {
-        let dot = observed(source, &case.head, point, noise);
-        case.push(dot);
+        let correspondence = observed(source, &case.rig, point, noise);
+        case.push(correspondence);
     }
     case
 }
@@ -397,23 +398,23 @@ pub fn plate(source: &mut Source, n: usize) -> Case {
 /// Heads and plates that cannot be measured well, or at all.
 #[derive(Clone, Copy, Debug, PartialEq, Eq)]
 pub enum Fault {
-    /// All dots on the line through both lenses.
+    /// All correspondences on the line through both lenses.
     OnLine,
     /// A basis of zeros: the 5 by 5 solve has nothing to hold on to.
     ZeroBasis,
     /// Both basis vectors the same.
     EqualBasis,
-    /// All dots at one place.
+    /// All correspondences at one place.
     EqualPoints,
     /// A negative focal length in one camera.
     NegativeFocal,
     /// A focal length of zero, either sign, in one camera.
     ZeroFocal,
-    /// Both lenses at one place, so that no dot has a depth.
+    /// Both lenses at one place, so that no correspondence has a depth.
     NoParallax,
-    /// Dots so far away that their depth is barely seen: weak blocks.
+    /// Correspondences so far away that their depth is barely seen: weak blocks.
     Far,
-    /// A dot level with or behind a lens.
+    /// A correspondence level with or behind a lens.
     Behind,
     /// Everything scaled by a power of two, up to overflow and underflow.
     Scaled,
@@ -436,23 +437,23 @@ pub const FAULTS: [Fault; 11] = [
     Fault::Whole,
 ];
 
-/// A plate of `n` dots with one fault.
+/// A plate of `n` correspondences with one fault.
 pub fn faulty(source: &mut Source, n: usize, fault: Fault) -> Case {
     let mut case = plate(source, n);
     match fault {
         Fault::OnLine => return on_line(source, n),
-        Fault::ZeroBasis => case.head.basis = [0.0; 6],
-        Fault::EqualBasis => case.head.basis.copy_within(0..3, 3),
+        Fault::ZeroBasis => case.rig.basis = [0.0; 6],
+        Fault::EqualBasis => case.rig.basis.copy_within(0..3, 3),
         Fault::EqualPoints => return equal_points(source, n),
         Fault::NegativeFocal => {
-            let focal = &mut case.head.cameras[source.below(2)][source.below(2)];
+            let focal = &mut case.rig.cameras[source.below(2)][source.below(2)];
             *focal = -*focal;
         }
         Fault::ZeroFocal => {
             let zero = if source.once_in(2) { 0.0 } else { -0.0 };
-            case.head.cameras[source.below(2)][source.below(2)] = zero;
+            case.rig.cameras[source.below(2)][source.below(2)] = zero;
         }
-        Fault::NoParallax => case.head.translation = [0.0; 3],
+        Fault::NoParallax => case.rig.translation = [0.0; 3],
         Fault::Far => return far(source, n),
         Fault::Behind if n > 0 => {
             let depth = &mut case.points[3 * source.below(n) + 2];
@@ -465,32 +466,32 @@ pub fn faulty(source: &mut Source, n: usize, fault: Fault) -> Case {
     case
 }
 
-/// Dots on the line through both lenses, in front of each: with no rotation
+/// Correspondences on the line through both lenses, in front of each: with no rotation
 /// the second lens is at minus the translation.
 fn on_line(source: &mut Source, n: usize) -> Case {
-    let mut case = Case::new(head(source), damping(source));
+    let mut case = Case::new(rig(source), damping(source));
     let (x, y) = (source.between(-0.2, 0.2), source.between(-0.2, 0.2));
-    case.head.rotation = rotation(0.0, 0.0, 0.0);
-    case.head.translation = [x, y, 1.0];
-    case.head.baseline = norm(&case.head.translation);
-    let unit = [x, y, 1.0].map(|value| value / case.head.baseline);
-    case.head.basis = tangent_basis(&unit);
+    case.rig.rotation = rotation(0.0, 0.0, 0.0);
+    case.rig.translation = [x, y, 1.0];
+    case.rig.baseline = norm(&case.rig.translation);
+    let unit = [x, y, 1.0].map(|value| value / case.rig.baseline);
+    case.rig.basis = tangent_basis(&unit);
     for _ in 0..n {
         let far = source.between(1.0, 9.0);
-        let dot = observed(source, &case.head, [x * far, y * far, far], 0.5);
-        case.push(dot);
+        let correspondence = observed(source, &case.rig, [x * far, y * far, far], 0.5);
+        case.push(correspondence);
     }
     case
 }
 
-/// Dots 2^14 to 2^28 times as far away as a plate.
+/// Correspondences 2^14 to 2^28 times as far away as a plate.
 fn far(source: &mut Source, n: usize) -> Case {
-    let mut case = Case::new(head(source), damping(source));
+    let mut case = Case::new(rig(source), damping(source));
     let factor = two_to(14 + source.below(15) as i64);
     for point in grid(source, n) {
         let place = point.map(|value| value * factor);
-        let dot = observed(source, &case.head, place, 0.5);
-        case.push(dot);
+        let correspondence = observed(source, &case.rig, place, 0.5);
+        case.push(correspondence);
     }
     case
 }
@@ -499,25 +500,25 @@ fn far(source: &mut Source, n: usize) -> Case {
 fn whole(source: &mut Source, case: &mut Case) {
     case.places().into_iter().for_each(|v| *v = source.small());
     case.damping = source.below(3) as f64;
-    case.head.baseline = 1.0 + source.below(3) as f64;
+    case.rig.baseline = 1.0 + source.below(3) as f64;
     for value in &mut case.inverse_deviations {
         *value = 1.0 + source.below(3) as f64;
     }
     if source.once_in(2) {
-        case.head.rotation = rotation(0.0, 0.0, 0.0);
+        case.rig.rotation = rotation(0.0, 0.0, 0.0);
     }
-    case.head.translation[2] = source.below(3) as f64;
+    case.rig.translation[2] = source.below(3) as f64;
     for depth in case.points.iter_mut().skip(2).step_by(3) {
         *depth = 1.0 + source.below(4) as f64;
     }
 }
 
 fn equal_points(source: &mut Source, n: usize) -> Case {
-    let mut case = Case::new(head(source), damping(source));
+    let mut case = Case::new(rig(source), damping(source));
     let point = [source.between(-1.0, 1.0), 0.5, source.between(4.0, 8.0)];
     for _ in 0..n {
-        let dot = observed(source, &case.head, point, 0.5);
-        case.push(dot);
+        let correspondence = observed(source, &case.rig, point, 0.5);
+        case.push(correspondence);
     }
     case
 }
@@ -525,9 +526,9 @@ fn equal_points(source: &mut Source, n: usize) -> Case {
 /// Scales focal lengths, deviations, or points with translation and baseline.
 fn scale(source: &mut Source, case: &mut Case) {
     let factor = source.power();
-    let head = &mut case.head;
+    let rig = &mut case.rig;
     match source.below(3) {
-        0 => head
+        0 => rig
             .cameras
             .as_flattened_mut()
             .iter_mut()
@@ -537,14 +538,14 @@ fn scale(source: &mut Source, case: &mut Case) {
             .iter_mut()
             .for_each(|v| *v *= factor),
         _ => {
-            head.translation.iter_mut().for_each(|v| *v *= factor);
-            head.baseline *= factor;
+            rig.translation.iter_mut().for_each(|v| *v *= factor);
+            rig.baseline *= factor;
             case.points.iter_mut().for_each(|v| *v *= factor);
         }
     }
 }
 
-/// A plate of `n` dots of any sort: sound, faulty, or with damaged numbers.
+/// A plate of `n` correspondences of any sort: sound, faulty, or with damaged numbers.
 pub fn any_plate(source: &mut Source, n: usize) -> Case {
     let mut case = if source.once_in(2) {
         plate(source, n)
@@ -622,18 +623,18 @@ pub fn equations(source: &mut Source) -> ([f64; 25], [f64; 5]) {
     (a, b)
 }
 
-/// One dot under a head, sound or damaged.
-pub fn dot(source: &mut Source) -> (Head, Dot) {
+/// One correspondence under a rig, sound or damaged.
+pub fn correspondence(source: &mut Source) -> (Rig, Correspondence) {
     let case = any_plate(source, 1);
-    (case.head, case.dot(0))
+    (case.rig, case.correspondence(0))
 }
 
 /// A block of any numbers: from the block maker, or made up, or damaged.
 pub fn any_block(source: &mut Source) -> Block {
     let mut numbers: [f64; Block::NUMBERS] = source.numbers();
     if !source.once_in(4) {
-        let (head, dot) = dot(source);
-        if let Ok(block) = crate::schur::linearize_point(&head, &dot) {
+        let (rig, correspondence) = correspondence(source);
+        if let Ok(block) = crate::schur::linearize_point(&rig, &correspondence) {
             numbers = block.numbers();
         }
     }

@@ -2,12 +2,12 @@
 
 use crate::kernel::two_view::optimizer::reach;
 pub use crate::kernel::two_view::optimizer::reach::timed;
-use crate::schur::{Head, System};
+use crate::schur::{Rig, System};
 
-/// What a whole step is lent, flat, with its head and damping.
+/// What a whole step is lent, flat, with its rig and damping.
 #[derive(Clone, Copy, Debug)]
 pub struct Plate<'a> {
-    pub head: Head,
+    pub rig: Rig,
     pub damping: f64,
     /// Three numbers a point.
     pub points: &'a [f64],
@@ -143,7 +143,7 @@ pub(crate) fn first_rows(plate: &Plate<'_>, room: usize) -> Option<Refusal> {
     if let Some(index) = plate.inverse_deviations.iter().position(bad) {
         return Some(refuse(4, 0, index));
     }
-    let baseline = plate.head.baseline;
+    let baseline = plate.rig.baseline;
     if !(baseline.is_finite() && baseline > 64.0 * f64::EPSILON) {
         return Some(refuse(5, 0, 0));
     }
@@ -185,6 +185,6 @@ pub struct Pass {
 /// projected. None where the baseline is not the norm of the translation, since
 /// `refine_impl` takes no other.
 pub fn refine_once(plate: &Plate<'_>, accept: bool) -> Option<Result<Pass, (usize, usize)>> {
-    let computed = norm(&plate.head.translation);
-    (computed.to_bits() == plate.head.baseline.to_bits()).then(|| reach::refine_once(plate, accept))
+    let computed = norm(&plate.rig.translation);
+    (computed.to_bits() == plate.rig.baseline.to_bits()).then(|| reach::refine_once(plate, accept))
 }

@@ -5,7 +5,7 @@ use std::fmt::Write;
 
 use crate::optimizer::{Refusal, refuse};
 use crate::point_block::{self, RCOND_THRESHOLD};
-use crate::schur::{Block, Dot, Head, System, linearize_point};
+use crate::schur::{Block, Correspondence, Rig, System, linearize_point};
 
 /// The most bytes that a record may have: those of 512 points.
 pub const LONGEST: usize = 34_559;
@@ -43,9 +43,9 @@ pub fn lines(record: &[u8]) -> Result<String, Refusal> {
 
 /// What a record in form holds.
 struct Run {
-    head: Head,
+    rig: Rig,
     damping: f64,
-    dots: Vec<Dot>,
+    correspondences: Vec<Correspondence>,
 }
 
 /// The record, and the place where its next field begins.
@@ -67,9 +67,9 @@ impl Reader<'_> {
         Ok(std::array::from_fn(|i| f64::from_le_bytes(numbers[i])))
     }
 
-    fn next_dot(&mut self) -> Result<Dot, Refusal> {
+    fn next_correspondence(&mut self) -> Result<Correspondence, Refusal> {
         let [x, y, z, u1, v1, u2, v2, inverse_deviation] = self.next(6)?;
-        Ok(Dot {
+        Ok(Correspondence {
             point: [x, y, z],
             view1: [u1, v1],
             view2: [u2, v2],
@@ -88,11 +88,11 @@ fn read(record: &[u8]) -> Result<Run, Refusal> {
     let [rotation @ .., x, y, z] = reader.next::<12>(3)?;
     let [basis @ .., baseline] = reader.next::<7>(4)?;
     let [damping] = reader.next(5)?;
-    let mut dots = Vec::new();
+    let mut correspondences = Vec::new();
     while reader.place < record.len() {
-        dots.push(reader.next_dot()?);
+        correspondences.push(reader.next_correspondence()?);
     }
-    let head = Head {
+    let rig = Rig {
         cameras,
         rotation,
         translation: [x, y, z],
@@ -100,27 +100,34 @@ fn read(record: &[u8]) -> Result<Run, Refusal> {
         baseline,
     };
     Ok(Run {
-        head,
+        rig,
         damping,
-        dots,
+        correspondences,
     })
 }
 
 /// The first of rows 3 to 8 whose condition holds, at its lowest index.
 fn rows_3_to_8(run: &Run) -> Option<Refusal> {
     let whole = |number, good: bool| (!good).then(|| refuse(number, 0, 0));
-    let first = |number, view, good: fn(&Dot) -> bool| {
-        let index = run.dots.iter().position(|dot| !good(dot))?;
+    let first = |number, view, good: fn(&Correspondence) -> bool| {
+        let index = run
+            .correspondences
+            .iter()
+            .position(|correspondence| !good(correspondence))?;
         Some(refuse(number, view, index))
     };
-    let (damping, baseline) = (run.damping, run.head.baseline);
+    let (damping, baseline) = (run.damping, run.rig.baseline);
     whole(3, damping.is_finite() && damping >= 0.0)
-        .or_else(|| first(4, 0, |dot| positive(dot.inverse_deviation)))
+        .or_else(|| {
+            first(4, 0, |correspondence| {
+                positive(correspondence.inverse_deviation)
+            })
+        })
         .or_else(|| whole(5, baseline.is_finite() && baseline > 64.0 * f64::EPSILON))
-        .or_else(|| first(6, 0, |dot| finite(&dot.point)))
-        .or_else(|| whole(7, run.dots.len() >= 5))
-        .or_else(|| first(8, 1, |dot| finite(&dot.view1)))
-        .or_else(|| first(8, 2, |dot| finite(&dot.view2)))
+        .or_else(|| first(6, 0, |correspondence| finite(&correspondence.point)))
+        .or_else(|| whole(7, run.correspondences.len() >= 5))
+        .or_else(|| first(8, 1, |correspondence| finite(&correspondence.view1)))
+        .or_else(|| first(8, 2, |correspondence| finite(&correspondence.view2)))
 }
 
 fn positive(value: f64) -> bool {
@@ -133,10 +140,10 @@ fn finite(numbers: &[f64]) -> bool {
 
 /// All blocks, or row 9 for the first point that one of the views cannot see.
 fn blocks(run: &Run) -> Result<Vec<Block>, Refusal> {
-    let block = |(index, dot)| {
-        linearize_point(&run.head, dot).map_err(|view: usize| refuse(9, view, index))
+    let block = |(index, correspondence)| {
+        linearize_point(&run.rig, correspondence).map_err(|view: usize| refuse(9, view, index))
     };
-    run.dots.iter().enumerate().map(block).collect()
+    run.correspondences.iter().enumerate().map(block).collect()
 }
 
 /// What the lone factor makes of a block; −0 counts as zero.

@@ -16,17 +16,26 @@ const MOST: usize = (LONGEST - POINTS) / POINT;
 
 /// The record of a plate, whose lengths must belong to one count.
 pub fn record(case: &Case) -> Vec<u8> {
-    let head = &case.head;
+    let rig = &case.rig;
     let mut record = Vec::with_capacity(POINTS + POINT * case.count());
-    push(&mut record, 1, &[&head.cameras[0]]);
-    push(&mut record, 2, &[&head.cameras[1]]);
-    push(&mut record, 3, &[&head.rotation, &head.translation]);
-    push(&mut record, 4, &[&head.basis, &[head.baseline]]);
+    push(&mut record, 1, &[&rig.cameras[0]]);
+    push(&mut record, 2, &[&rig.cameras[1]]);
+    push(&mut record, 3, &[&rig.rotation, &rig.translation]);
+    push(&mut record, 4, &[&rig.basis, &[rig.baseline]]);
     push(&mut record, 5, &[&[case.damping]]);
     for index in 0..case.count() {
-        let dot = case.dot(index);
-        let last = [dot.inverse_deviation];
-        push(&mut record, 6, &[&dot.point, &dot.view1, &dot.view2, &last]);
+        let correspondence = case.correspondence(index);
+        let last = [correspondence.inverse_deviation];
+        push(
+            &mut record,
+            6,
+            &[
+                &correspondence.point,
+                &correspondence.view1,
+                &correspondence.view2,
+                &last,
+            ],
+        );
     }
     record
 }
@@ -65,7 +74,7 @@ fn in_form(source: &mut Source) -> Vec<u8> {
     };
     let case = match source.below(4) {
         0 => wild(source, n),
-        1 => far_dots(source, n),
+        1 => far_points(source, n),
         _ => any_plate(source, n),
     };
     record(&case)
@@ -83,9 +92,9 @@ fn wild(source: &mut Source, n: usize) -> Case {
     case
 }
 
-/// A plate at damping zero, with dots so far away that some are weak and some
+/// A plate at damping zero, with correspondences so far away that some are weak and some
 /// do not factor.
-fn far_dots(source: &mut Source, n: usize) -> Case {
+fn far_points(source: &mut Source, n: usize) -> Case {
     let mut case = plate(source, n);
     case.damping = if source.once_in(2) { 0.0 } else { -0.0 };
     for point in case.points.as_chunks_mut::<3>().0 {

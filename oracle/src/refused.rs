@@ -19,7 +19,7 @@ pub fn refused(source: &mut Source, rows: &[u32]) -> Option<Case> {
     };
     let mut case = plate(source, count);
     case.damping = 0.0;
-    // A dot for each row, so that none mends what another broke.
+    // A correspondence for each row, so that none mends what another broke.
     let index = source.below(count);
     for (place, &row) in rows.iter().enumerate() {
         break_row(source, &mut case, row, (index + place) % count);
@@ -30,20 +30,20 @@ pub fn refused(source: &mut Source, rows: &[u32]) -> Option<Case> {
     Some(case)
 }
 
-/// Makes the row's condition hold, at this dot if it is about one. Rows 1, 2
+/// Makes the row's condition hold, at this correspondence if it is about one. Rows 1, 2
 /// and 7 are matters of length.
 fn break_row(source: &mut Source, case: &mut Case, row: u32, index: usize) {
     match row {
         3 => case.damping = one_of(source, &[-1.0, -f64::from_bits(1)]),
         4 => case.inverse_deviations[index] = one_of(source, &[0.0, -0.0, -1.0]),
-        5 => case.head.baseline = one_of(source, &[64.0 * f64::EPSILON, 0.0, -1.0]),
+        5 => case.rig.baseline = one_of(source, &[64.0 * f64::EPSILON, 0.0, -1.0]),
         6 => case.points[3 * index + source.below(3)] = one_of(source, &[]),
         8 if source.once_in(2) => case.view1[2 * index] = one_of(source, &[]),
         8 => case.view2[2 * index + 1] = one_of(source, &[]),
         9 => case.points[3 * index..][..3].fill(0.0),
         // Its square overflows, and the block does not factor.
         10 => case.inverse_deviations[index] = 1e200,
-        11 => case.head.basis = [0.0; 6],
+        11 => case.rig.basis = [0.0; 6],
         _ => {}
     }
 }

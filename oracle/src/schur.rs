@@ -5,9 +5,9 @@ use crate::projection::Camera;
 
 pub use reach::scaled_gradient_inf_norm;
 
-/// Everything but the dots: cameras, pose of the second, basis, baseline.
+/// Everything but the correspondences: cameras, pose of the second, basis, baseline.
 #[derive(Clone, Copy, Debug)]
-pub struct Head {
+pub struct Rig {
     pub cameras: [Camera; 2],
     /// By rows.
     pub rotation: [f64; 9],
@@ -17,8 +17,8 @@ pub struct Head {
     pub baseline: f64,
 }
 
-impl Head {
-    /// How many numbers a head has.
+impl Rig {
+    /// How many numbers a rig has.
     pub const NUMBERS: usize = 29;
 
     /// All numbers in the order of the fields.
@@ -34,7 +34,7 @@ impl Head {
         std::array::from_fn(|_| *numbers.next().expect("29 numbers"))
     }
 
-    /// A head of any numbers, in the order of the fields.
+    /// A rig of any numbers, in the order of the fields.
     pub fn from_numbers(numbers: &[f64; Self::NUMBERS]) -> Self {
         Self {
             cameras: [part(numbers, 0), part(numbers, 5)],
@@ -48,15 +48,15 @@ impl Head {
 
 /// One point, where each view saw it, and its inverse deviation.
 #[derive(Clone, Copy, Debug)]
-pub struct Dot {
+pub struct Correspondence {
     pub point: [f64; 3],
     pub view1: [f64; 2],
     pub view2: [f64; 2],
     pub inverse_deviation: f64,
 }
 
-impl Dot {
-    /// How many numbers a dot has.
+impl Correspondence {
+    /// How many numbers a correspondence has.
     pub const NUMBERS: usize = 8;
 
     /// All numbers in the order of the fields.
@@ -65,7 +65,7 @@ impl Dot {
         [x, y, z, a, b, c, d, self.inverse_deviation]
     }
 
-    /// A dot of any numbers, in the order of the fields.
+    /// A correspondence of any numbers, in the order of the fields.
     pub fn from_numbers(numbers: &[f64; Self::NUMBERS]) -> Self {
         Self {
             point: part(numbers, 0),
@@ -126,18 +126,18 @@ fn part<const N: usize>(numbers: &[f64], start: usize) -> [f64; N] {
 
 /// `linearize_point` with `Loss::L2`. `Err` holds the view, 1 or 2, that is not
 /// projectable. The inverse deviation is used as given.
-pub fn linearize_point(head: &Head, dot: &Dot) -> Result<Block, usize> {
-    reach::linearize_point(head, dot)
+pub fn linearize_point(rig: &Rig, correspondence: &Correspondence) -> Result<Block, usize> {
+    reach::linearize_point(rig, correspondence)
 }
 
 /// The same through the original's own noise model, which takes a standard
-/// deviation and uses its reciprocal. The dot's inverse deviation is not read.
+/// deviation and uses its reciprocal. The correspondence's inverse deviation is not read.
 pub fn linearize_point_with_deviation(
-    head: &Head,
-    dot: &Dot,
+    rig: &Rig,
+    correspondence: &Correspondence,
     standard_deviation: f64,
 ) -> Result<Block, usize> {
-    reach::linearize_point_with_deviation(head, dot, standard_deviation)
+    reach::linearize_point_with_deviation(rig, correspondence, standard_deviation)
 }
 
 /// `point_step_with_damping_norm`: step and damping norm; none if no factor.

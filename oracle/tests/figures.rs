@@ -4,7 +4,7 @@ use oracle::flat::{all_same, same};
 use oracle::optimizer::{Plate, Refusal, limit_pose_step, whole_step};
 use oracle::point_block::{self, RCOND_THRESHOLD};
 use oracle::projection::pixel_projection;
-use oracle::schur::{Dot, Head, System, linearize_point};
+use oracle::schur::{Correspondence, Rig, System, linearize_point};
 
 fn two_to(exponent: i32) -> f64 {
     2.0_f64.powi(exponent)
@@ -84,10 +84,10 @@ fn rcond_through_solves() {
     assert!(same(rcond, 1.0));
 }
 
-/// The head and the five dots of the sample list.
-fn sample() -> (Head, Vec<Dot>) {
+/// The rig and the five correspondences of the sample list.
+fn sample() -> (Rig, Vec<Correspondence>) {
     let camera = [1.0, 1.0, 0.0, 0.0, 0.0];
-    let head = Head {
+    let rig = Rig {
         cameras: [camera; 2],
         rotation: diagonal(1.0, 1.0, 1.0),
         translation: [0.0, 0.0, 1.0],
@@ -95,25 +95,25 @@ fn sample() -> (Head, Vec<Dot>) {
         baseline: 1.0,
     };
     let places = [[0.0, 0.0], [1.0, 0.0], [-1.0, 0.0], [0.0, 1.0], [0.0, -1.0]];
-    let mut dots: Vec<Dot> = places
-        .map(|[x, y]| Dot {
+    let mut correspondences: Vec<Correspondence> = places
+        .map(|[x, y]| Correspondence {
             point: [x, y, 1.0],
             view1: [x, y],
             view2: [x / 2.0, y / 2.0],
             inverse_deviation: 1.0,
         })
         .to_vec();
-    dots[0].view1 = [0.0, 1.0];
-    (head, dots)
+    correspondences[0].view1 = [0.0, 1.0];
+    (rig, correspondences)
 }
 
 #[test]
 fn sample_list() {
-    let (head, dots) = sample();
+    let (rig, correspondences) = sample();
     let mut system = System::new();
     let mut letters = String::new();
-    for dot in &dots {
-        let block = linearize_point(&head, dot).expect("projectable");
+    for correspondence in &correspondences {
+        let block = linearize_point(&rig, correspondence).expect("projectable");
         letters.push(match rcond(&block.point_hessian) {
             None => 'n',
             Some(rcond) if rcond <= RCOND_THRESHOLD => 'w',
@@ -129,7 +129,7 @@ fn sample_list() {
 }
 
 struct Flat {
-    head: Head,
+    rig: Rig,
     points: Vec<f64>,
     view1: Vec<f64>,
     view2: Vec<f64>,
@@ -137,27 +137,39 @@ struct Flat {
 }
 
 impl Flat {
-    /// The sample without its first dot, and that seen from the side instead.
+    /// The sample without its first correspondence, and that seen from the side instead.
     fn sound() -> Self {
-        let (head, mut dots) = sample();
-        dots[0] = Dot {
+        let (rig, mut correspondences) = sample();
+        correspondences[0] = Correspondence {
             point: [1.0, 1.0, 2.0],
             view1: [0.5, 0.5],
             view2: [0.4, 0.3],
             inverse_deviation: 1.0,
         };
         Self {
-            head,
-            points: dots.iter().flat_map(|dot| dot.point).collect(),
-            view1: dots.iter().flat_map(|dot| dot.view1).collect(),
-            view2: dots.iter().flat_map(|dot| dot.view2).collect(),
-            inverse_deviations: dots.iter().map(|dot| dot.inverse_deviation).collect(),
+            rig,
+            points: correspondences
+                .iter()
+                .flat_map(|correspondence| correspondence.point)
+                .collect(),
+            view1: correspondences
+                .iter()
+                .flat_map(|correspondence| correspondence.view1)
+                .collect(),
+            view2: correspondences
+                .iter()
+                .flat_map(|correspondence| correspondence.view2)
+                .collect(),
+            inverse_deviations: correspondences
+                .iter()
+                .map(|correspondence| correspondence.inverse_deviation)
+                .collect(),
         }
     }
 
     fn refusal_at(&self, damping: f64, room: usize) -> Option<(u32, usize, usize)> {
         let plate = Plate {
-            head: self.head,
+            rig: self.rig,
             damping,
             points: &self.points,
             view1: &self.view1,
@@ -184,13 +196,13 @@ fn refusals() {
     let changes: [Change; 9] = [
         (|flat| flat.view1.truncate(9), (1, 0, 0)),
         (|flat| flat.inverse_deviations[2] = 0.0, (4, 0, 2)),
-        (|flat| flat.head.baseline = two_to(-46), (5, 0, 0)),
+        (|flat| flat.rig.baseline = two_to(-46), (5, 0, 0)),
         (|flat| flat.points[0] = f64::NAN, (6, 0, 0)),
         (shorten, (7, 0, 0)),
         (|flat| flat.view2[6] = f64::INFINITY, (8, 2, 3)),
         (|flat| flat.points[..3].fill(0.0), (9, 1, 0)),
-        (|flat| flat.head.translation[0] = f64::NAN, (9, 2, 0)),
-        (|flat| flat.head.basis = [0.0; 6], (11, 0, 0)),
+        (|flat| flat.rig.translation[0] = f64::NAN, (9, 2, 0)),
+        (|flat| flat.rig.basis = [0.0; 6], (11, 0, 0)),
     ];
     for (change, expected) in changes {
         let mut flat = Flat::sound();
@@ -216,7 +228,7 @@ fn sizes() {
     assert_eq!(flat.refusal(), Some((2, 0, 0)));
 }
 
-/// A dot on the line through both lenses does not factor: row 10.
+/// A correspondence on the line through both lenses does not factor: row 10.
 #[test]
 fn not_valid() {
     let mut flat = Flat::sound();

@@ -4,7 +4,9 @@
 use oracle::flat::{all_same, same};
 use oracle::generate::{self, Source};
 use oracle::optimizer::{Outcome, limit_pose_step, step, whole_step};
-use oracle::schur::{Block, Dot, Head, System, linearize_point, linearize_point_with_deviation};
+use oracle::schur::{
+    Block, Correspondence, Rig, System, linearize_point, linearize_point_with_deviation,
+};
 use oracle::{point_block, projection, schur, solver, zeros};
 
 #[test]
@@ -20,9 +22,12 @@ fn the_same_seed_gives_the_same_inputs() {
 fn flat_forms_go_both_ways() {
     let mut source = Source::new(4);
     for _ in 0..200 {
-        let (head, dot) = (source.moderates(), source.moderates());
-        assert_eq!(Head::from_numbers(&head).numbers(), head);
-        assert_eq!(Dot::from_numbers(&dot).numbers(), dot);
+        let (rig, correspondence) = (source.moderates(), source.moderates());
+        assert_eq!(Rig::from_numbers(&rig).numbers(), rig);
+        assert_eq!(
+            Correspondence::from_numbers(&correspondence).numbers(),
+            correspondence
+        );
         let (block, system) = (source.moderates(), source.moderates());
         assert_eq!(Block::from_numbers(&block).numbers(), block);
         assert_eq!(System::from_parts(&system, 3, true).numbers(), system);
@@ -75,16 +80,16 @@ fn deviations_arrive_unchanged() {
     let mut source = Source::new(3);
     let mut made = 0;
     for _ in 0..20_000 {
-        let (head, mut dot) = generate::dot(&mut source);
+        let (rig, mut correspondence) = generate::correspondence(&mut source);
         let deviation = source.mixed().abs();
         let inverse = deviation.recip();
         if !(deviation.is_finite() && deviation > 0.0 && inverse.is_finite() && inverse > 0.0) {
             continue;
         }
-        dot.inverse_deviation = inverse;
+        correspondence.inverse_deviation = inverse;
         match (
-            linearize_point(&head, &dot),
-            linearize_point_with_deviation(&head, &dot, deviation),
+            linearize_point(&rig, &correspondence),
+            linearize_point_with_deviation(&rig, &correspondence, deviation),
         ) {
             (Ok(given), Ok(original)) => {
                 made += 1;
@@ -152,8 +157,8 @@ fn no_list_of_blocks_meets_unlike_zeros() {
         let damping = generate::damping(&mut source);
         let (mut plain, mut ruled) = (System::new(), System::new());
         for _ in 0..source.below(10) {
-            let (head, dot) = generate::dot(&mut source);
-            if let Ok(block) = linearize_point(&head, &dot) {
+            let (rig, correspondence) = generate::correspondence(&mut source);
+            if let Ok(block) = linearize_point(&rig, &correspondence) {
                 plain = plain.add(&block, damping);
                 ruled = zeros::add(&ruled, &block, damping);
             }

@@ -169,7 +169,7 @@ fn hold(case: &Case) {
     let given = lines(&record(case));
     assert_eq!(given.as_ref().err(), whole.as_ref());
     let Ok(given) = given else { return };
-    let system = reduced_system(&case.plate()).expect("all dots can be projected");
+    let system = reduced_system(&case.plate()).expect("all correspondences can be projected");
     let (weak, valid) = (system.weak_point_count, system.is_valid());
     let last = format!(
         "sum {:016X} {:016X} {weak} {} {}",

@@ -13,7 +13,7 @@ fn case(seed: u64) -> Case {
     let mut source = Source::new(seed);
     let n = source.below(14);
     let mut case = generate::any_plate(&mut source, n);
-    case.head.baseline = norm(&case.head.translation);
+    case.rig.baseline = norm(&case.rig.translation);
     case
 }
 
@@ -35,7 +35,7 @@ fn check_step(plate: &Plate<'_>, step: &Step, refused: &Pass, accepted: &Pass) {
         (pose_rms * pose_rms + rms * rms).sqrt()
     ));
     let moved: Vec<f64> = (plate.points.iter().zip(&step.point_steps))
-        .map(|(point, step)| point + plate.head.baseline * step)
+        .map(|(point, step)| point + plate.rig.baseline * step)
         .collect();
     assert!(all_same(&accepted.points, &moved));
     if plate.damping == 0.0 && step.system.is_valid() {

@@ -130,7 +130,11 @@ pub const MAX_LIST: usize = 4057;
 /// not fit and `out` is left alone, the length that it would have.
 pub fn write_list(record: &[u8], out: &mut [u8]) -> Result<usize, usize> {
     let length = slices::write_list(record, out) as usize;
-    if length <= out.len() { Ok(length) } else { Err(length) }
+    if length <= out.len() {
+        Ok(length)
+    } else {
+        Err(length)
+    }
 }
 
 /// The `N` numbers that a call writes where it answers 0.

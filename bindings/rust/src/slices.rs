@@ -295,11 +295,6 @@ pub fn limit_pose_step(x: &[f64], out: &mut [f64]) -> u64 {
 /// Any record, any room; the answer is the list's length, and it is written where it fits.
 pub fn write_list(record: &[u8], out: &mut [u8]) -> u64 {
     unsafe {
-        ffi::pixel_step_write_list(
-            record.as_ptr(),
-            record.len(),
-            out.as_mut_ptr(),
-            out.len(),
-        )
+        ffi::pixel_step_write_list(record.as_ptr(), record.len(), out.as_mut_ptr(), out.len())
     }
 }

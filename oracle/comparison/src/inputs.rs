@@ -16,7 +16,7 @@ pub use equations::equations;
 pub use matrices::{inverse, matrix};
 pub use sights::sight;
 pub use steps::{MANY_POINTS, pose_step, problem};
-pub use systems::{MOST_BLOCKS, block, dot, system};
+pub use systems::{MOST_BLOCKS, block, correspondence, system};
 
 /// 64ε: depths and pivots at or below it are refused.
 const LIMIT: f64 = 64.0 * f64::EPSILON;

@@ -103,7 +103,7 @@ fn walk(list: &List, tally: &mut Tally) -> Result<(), Differs> {
 /// The block of a call. Where the block maker refuses it is +0 everywhere, or
 /// the call is left out.
 fn made(add: &Add, tally: &mut Tally) -> Result<Option<Pair>, Differs> {
-    let given = Pair::of(&[&add.head.numbers(), &add.dot.numbers()]);
+    let given = Pair::of(&[&add.rig.numbers(), &add.correspondence.numbers()]);
     let block = both(&f::linearize_point::FUNCTION, given, tally)?;
     let zeros = add.zeros_for_none.then(|| Pair::of(&[&[0.0; 59]]));
     Ok(block.or(zeros))

@@ -172,8 +172,8 @@ fn small_results(source: &mut Source, digest: &mut Digest) {
 }
 
 fn system_results(source: &mut Source, digest: &mut Digest) {
-    let (head, dot) = generate::dot(source);
-    if let Ok(block) = linearize_point(&head, &dot) {
+    let (rig, correspondence) = generate::correspondence(source);
+    if let Ok(block) = linearize_point(&rig, &correspondence) {
         digest.numbers(&block.numbers());
     }
     let (system, block) = (generate::any_system(source, 9), generate::any_block(source));

@@ -9,7 +9,7 @@ use crate::numerics::refine::ConvergenceCriteria;
 use crate::optimizer::{Outcome, Pass, Plate, Refusal, Step, refuse};
 use crate::projection::{Camera, pinhole};
 use crate::recorder;
-use crate::schur::{Block, Dot, System};
+use crate::schur::{Block, Correspondence, System};
 
 pub mod timed;
 
@@ -47,7 +47,7 @@ fn pixel_model<'a>(plate: &Plate<'a>, cameras: &[Camera; 2]) -> PixelModel<'a> {
 }
 
 fn step_model<'a>(plate: &Plate<'a>) -> StepModel<'a> {
-    StepModel(pixel_model(plate, &plate.head.cameras))
+    StepModel(pixel_model(plate, &plate.rig.cameras))
 }
 
 fn points<'a>(plate: &Plate<'a>) -> &'a [[f64; 3]] {
@@ -67,9 +67,9 @@ pub(crate) fn limit_pose_step(step: &[f64; 5], maximum: f64) -> [f64; 5] {
 fn reduced(plate: &Plate<'_>) -> Option<ReducedSystem> {
     super::reduced_system(
         step_model(plate),
-        &pose(&plate.head),
-        &rows(&plate.head.basis),
-        plate.head.baseline,
+        &pose(&plate.rig),
+        &rows(&plate.rig.basis),
+        plate.rig.baseline,
         points(plate),
         Loss::L2,
         NoiseModel::Given(plate.inverse_deviations),
@@ -98,7 +98,7 @@ pub(crate) fn middle_rows(plate: &Plate<'_>) -> Option<Refusal> {
 }
 
 fn projectable(plate: &Plate<'_>) -> Result<(), BundleAdjustmentError> {
-    validate_projection_domain(step_model(plate), &pose(&plate.head), points(plate))
+    validate_projection_domain(step_model(plate), &pose(&plate.rig), points(plate))
 }
 
 fn refusal(error: BundleAdjustmentError) -> Refusal {
@@ -149,14 +149,14 @@ pub(crate) fn step(plate: &Plate<'_>) -> Outcome {
 
 /// Step RMS and damping norm from `candidate_cost` itself.
 fn point_sums(plate: &Plate<'_>, pose_step: &[f64; POSE_DIMENSION]) -> Option<(f64, f64)> {
-    let pose = pose(&plate.head);
+    let pose = pose(&plate.rig);
     recorder::begin_candidate();
     let sums = candidate_cost(
         step_model(plate),
         &pose,
         &pose,
-        &rows(&plate.head.basis),
-        plate.head.baseline,
+        &rows(&plate.rig.basis),
+        plate.rig.baseline,
         points(plate),
         Loss::L2,
         NoiseModel::Given(plate.inverse_deviations),
@@ -171,13 +171,13 @@ fn point_sums(plate: &Plate<'_>, pose_step: &[f64; POSE_DIMENSION]) -> Option<(f
 fn point_steps(plate: &Plate<'_>, pose_step: &[f64; POSE_DIMENSION]) -> Option<Vec<f64>> {
     let mut steps = Vec::with_capacity(plate.points.len());
     for (index, point) in points(plate).iter().enumerate() {
-        let dot = Dot {
+        let correspondence = Correspondence {
             point: *point,
             view1: plate.view1.as_chunks().0[index],
             view2: plate.view2.as_chunks().0[index],
             inverse_deviation: plate.inverse_deviations[index],
         };
-        let block: Block = crate::schur::linearize_point(&plate.head, &dot).ok()?;
+        let block: Block = crate::schur::linearize_point(&plate.rig, &correspondence).ok()?;
         let (step, _) =
             crate::schur::point_step_with_damping_norm(&block, plate.damping, pose_step)?;
         steps.extend(step);
@@ -190,9 +190,9 @@ fn point_steps(plate: &Plate<'_>, pose_step: &[f64; POSE_DIMENSION]) -> Option<V
 pub(crate) fn refine_once(plate: &Plate<'_>, accept: bool) -> Result<Pass, (usize, usize)> {
     let never = ConvergenceCriteria::new(f64::NAN, f64::NAN, f64::NAN);
     let mut moved = points(plate).to_vec();
-    recorder::begin(rows(&plate.head.basis), plate.damping, accept);
+    recorder::begin(rows(&plate.rig.basis), plate.damping, accept);
     let report = refine_impl(
-        pose(&plate.head),
+        pose(&plate.rig),
         &mut moved,
         step_model(plate),
         Options::l2(2).with_convergence(never),

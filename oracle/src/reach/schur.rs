@@ -9,7 +9,7 @@ use crate::kernel::projection::Projection;
 use crate::kernel::two_view::{BundleAdjustmentError, RelativePose};
 use crate::numerics::refine::{Loss, NoiseModel, api};
 use crate::projection::pinhole;
-use crate::schur::{Block, Dot, Head, System};
+use crate::schur::{Block, Correspondence, Rig, System};
 
 /// The pixel model, noting the view that was last not projectable.
 #[derive(Clone, Copy)]
@@ -33,40 +33,40 @@ impl MeasurementModel for Watched<'_> {
 }
 
 /// The pose as the original holds it, unchecked.
-pub(crate) fn pose(head: &Head) -> RelativePose {
-    RelativePose::new(rows(&head.rotation), head.translation)
+pub(crate) fn pose(rig: &Rig) -> RelativePose {
+    RelativePose::new(rows(&rig.rotation), rig.translation)
 }
 
-pub(crate) fn linearize_point(head: &Head, dot: &Dot) -> Result<Block, usize> {
-    linearize_with(head, dot, NoiseModel::Given(&[dot.inverse_deviation]))
+pub(crate) fn linearize_point(rig: &Rig, correspondence: &Correspondence) -> Result<Block, usize> {
+    linearize_with(rig, correspondence, NoiseModel::Given(&[correspondence.inverse_deviation]))
 }
 
 pub(crate) fn linearize_point_with_deviation(
-    head: &Head,
-    dot: &Dot,
+    rig: &Rig,
+    correspondence: &Correspondence,
     standard_deviation: f64,
 ) -> Result<Block, usize> {
     let noise = api::NoiseModel::per_observation(std::slice::from_ref(&standard_deviation));
-    linearize_with(head, dot, NoiseModel::Original(noise))
+    linearize_with(rig, correspondence, NoiseModel::Original(noise))
 }
 
 /// The block of one point under either way of giving its deviation.
-fn linearize_with(head: &Head, dot: &Dot, noise: NoiseModel<'_>) -> Result<Block, usize> {
+fn linearize_with(rig: &Rig, correspondence: &Correspondence, noise: NoiseModel<'_>) -> Result<Block, usize> {
     let failed = Cell::new(0);
     let model = Watched {
         model: PixelModel {
-            observations1: &[dot.view1],
-            observations2: &[dot.view2],
-            cameras: [pinhole(&head.cameras[0]), pinhole(&head.cameras[1])],
+            observations1: &[correspondence.view1],
+            observations2: &[correspondence.view2],
+            cameras: [pinhole(&rig.cameras[0]), pinhole(&rig.cameras[1])],
         },
         failed: &failed,
     };
     super::linearize_point(
         model,
-        &pose(head),
-        &rows(&head.basis),
-        head.baseline,
-        &dot.point,
+        &pose(rig),
+        &rows(&rig.basis),
+        rig.baseline,
+        &correspondence.point,
         0,
         Loss::L2,
         noise,

@@ -35,9 +35,9 @@ impl<'a> Prepared<'a> {
     pub fn new(plate: &Plate<'a>) -> Self {
         Self {
             plate: *plate,
-            model: pixel_model(plate, &plate.head.cameras),
-            pose: pose(&plate.head),
-            basis: rows(&plate.head.basis),
+            model: pixel_model(plate, &plate.rig.cameras),
+            pose: pose(&plate.rig),
+            basis: rows(&plate.rig.basis),
         }
     }
 
@@ -64,7 +64,7 @@ impl<'a> Prepared<'a> {
             self.model,
             &self.pose,
             &self.basis,
-            self.plate.head.baseline,
+            self.plate.rig.baseline,
             point,
             index,
             Loss::L2,
@@ -118,7 +118,7 @@ impl<'a> Prepared<'a> {
             self.model,
             &self.pose,
             &self.basis,
-            self.plate.head.baseline,
+            self.plate.rig.baseline,
             points(&self.plate),
             Loss::L2,
             self.noise(),

@@ -1,7 +1,7 @@
 //! The block maker: row 4, then `linearize_point` of schur.rs with plain
 //! squares, whose missing projections are row 9 with view 1 or 2.
 
-use oracle::schur::{self, Dot, Head};
+use oracle::schur::{self, Correspondence, Rig};
 use pixel_step::{Refusal, slices};
 
 use crate::function::{Answer, Function, lent, room};
@@ -10,24 +10,24 @@ use crate::inputs;
 
 pub const FUNCTION: Function = Function {
     name: "linearize_point",
-    arguments: &[lent("rig", 29), lent("dot", 8), room(59)],
+    arguments: &[lent("rig", 29), lent("correspondence", 8), room(59)],
     rows: &[4, 9],
     walk: None,
     generate: |source| {
-        let (head, dot) = inputs::dot(source);
-        Input::of(&[&head.numbers(), &dot.numbers()])
+        let (rig, correspondence) = inputs::correspondence(source);
+        Input::of(&[&rig.numbers(), &correspondence.numbers()])
     },
     port: |lent, rooms| {
         slices::linearize_point(lent.numbers(0), lent.numbers(1), rooms.numbers[0])
     },
     oracle: |input| {
-        let head = Head::from_numbers(&input.numbers(0));
-        let dot = Dot::from_numbers(&input.numbers(1));
-        let deviation = dot.inverse_deviation;
+        let rig = Rig::from_numbers(&input.numbers(0));
+        let correspondence = Correspondence::from_numbers(&input.numbers(1));
+        let deviation = correspondence.inverse_deviation;
         if !deviation.is_finite() || deviation <= 0.0 {
             return Answer::row(4);
         }
-        match schur::linearize_point(&head, &dot) {
+        match schur::linearize_point(&rig, &correspondence) {
             Ok(block) => Answer::numbers(&block.numbers()),
             Err(view) => Answer::Refused(Refusal {
                 number: 9,

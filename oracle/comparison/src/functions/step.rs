@@ -3,7 +3,7 @@
 //! walk brings.
 
 use oracle::optimizer::{Plate, whole_step};
-use oracle::schur::Head;
+use oracle::schur::Rig;
 use pixel_step::{Refusal, slices};
 
 use crate::function::{Answer, Argument, Function, Kind, count_room, lent, number, open, room};
@@ -47,7 +47,7 @@ pub const FUNCTION: Function = Function {
 fn stepped(input: &Input) -> Answer {
     let [points, view1, view2, deviations] = [0, 1, 2, 3].map(|place| input.list(place));
     let problem = Plate {
-        head: Head::from_numbers(&input.numbers(4)),
+        rig: Rig::from_numbers(&input.numbers(4)),
         damping: input.number(5),
         points: &points,
         view1: &view1,

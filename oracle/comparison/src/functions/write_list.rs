@@ -169,7 +169,7 @@ mod tests {
         }
     }
 
-    /// Weak dots are good ones.
+    /// Weak correspondences are good ones.
     struct Mild;
 
     impl WriteList for Mild {
@@ -237,7 +237,7 @@ mod tests {
         assert_eq!(lists.collect::<Vec<_>>(), cut);
     }
 
-    /// 512 dots, all weak.
+    /// 512 correspondences, all weak.
     #[test]
     fn the_longest_list_fits() {
         let mut case = faulty(&mut Source::new(1), 512, Fault::OnLine);

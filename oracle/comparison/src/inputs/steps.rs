@@ -81,7 +81,7 @@ fn lent(case: &Case) -> Input {
         &case.view1,
         &case.view2,
         &case.inverse_deviations,
-        &case.head.numbers(),
+        &case.rig.numbers(),
         &[case.damping],
     ]);
     input.0.push(vec![fill(Kind::Room); 3 * case.count()]);

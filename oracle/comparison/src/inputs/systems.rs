@@ -1,32 +1,32 @@
-//! Dots under a head, blocks, and systems with their counts.
+//! Correspondences under a rig, blocks, and systems with their counts.
 
 use oracle::generate::{self, Source};
-use oracle::schur::{Block, Dot, Head, System};
+use oracle::schur::{Block, Correspondence, Rig, System};
 
 use super::{LIMIT, matrix, nudged, zero};
 
 /// The most blocks that a system takes in.
 pub const MOST_BLOCKS: u16 = 65_535;
 
-/// A head and a dot of any kind: the block maker refuses some by each row.
-pub fn dot(source: &mut Source) -> (Head, Dot) {
-    let (mut head, mut dot) = match source.below(8) {
-        0..=3 => generate::dot(source),
+/// A rig and a correspondence of any kind: the block maker refuses some by each row.
+pub fn correspondence(source: &mut Source) -> (Rig, Correspondence) {
+    let (mut rig, mut correspondence) = match source.below(8) {
+        0..=3 => generate::correspondence(source),
         4 => unseen(source),
         5 => (
-            Head::from_numbers(&source.numbers()),
-            Dot::from_numbers(&source.numbers()),
+            Rig::from_numbers(&source.numbers()),
+            Correspondence::from_numbers(&source.numbers()),
         ),
         6 => whole(source),
         _ => scaled(source),
     };
     if source.once_in(6) {
-        dot.inverse_deviation = bad_deviation(source);
+        correspondence.inverse_deviation = bad_deviation(source);
     }
     if source.once_in(12) {
-        head.baseline = source.mixed();
+        rig.baseline = source.mixed();
     }
-    (head, dot)
+    (rig, correspondence)
 }
 
 /// An inverse deviation that row 4 refuses, or a neighbour of one.
@@ -41,45 +41,49 @@ fn bad_deviation(source: &mut Source) -> f64 {
     }
 }
 
-/// A sound dot that one of the views hardly sees, or not at all.
-fn unseen(source: &mut Source) -> (Head, Dot) {
+/// A sound correspondence that one of the views hardly sees, or not at all.
+fn unseen(source: &mut Source) -> (Rig, Correspondence) {
     let case = generate::plate(source, 1);
-    let (mut head, mut dot) = (case.head, case.dot(0));
+    let (mut rig, mut correspondence) = (case.rig, case.correspondence(0));
     let depth = match source.below(4) {
         0 => zero(source),
-        1 => -dot.point[2],
+        1 => -correspondence.point[2],
         2 => {
-            let wide = dot.point[0].abs().max(dot.point[1].abs());
+            let wide = correspondence.point[0]
+                .abs()
+                .max(correspondence.point[1].abs());
             nudged(source, LIMIT * wide)
         }
         _ => f64::NAN,
     };
     if source.once_in(2) {
-        dot.point[2] = depth;
+        correspondence.point[2] = depth;
     } else {
         // The second camera stands so that the depth is its own.
-        let rotated = [6, 7, 8].map(|index| head.rotation[index]);
-        let turned: f64 = (0..3).map(|index| rotated[index] * dot.point[index]).sum();
-        head.translation[2] = depth - turned;
+        let rotated = [6, 7, 8].map(|index| rig.rotation[index]);
+        let turned: f64 = (0..3)
+            .map(|index| rotated[index] * correspondence.point[index])
+            .sum();
+        rig.translation[2] = depth - turned;
     }
-    (head, dot)
+    (rig, correspondence)
 }
 
 /// Small whole numbers, so that sums cancel.
-fn whole(source: &mut Source) -> (Head, Dot) {
+fn whole(source: &mut Source) -> (Rig, Correspondence) {
     let case = generate::faulty(source, 1, generate::Fault::Whole);
-    (case.head, case.dot(0))
+    (case.rig, case.correspondence(0))
 }
 
-/// A sound dot, with parts scaled up to overflow and underflow.
-fn scaled(source: &mut Source) -> (Head, Dot) {
+/// A sound correspondence, with parts scaled up to overflow and underflow.
+fn scaled(source: &mut Source) -> (Rig, Correspondence) {
     let case = generate::faulty(source, 1, generate::Fault::Scaled);
-    let (head, mut dot) = (case.head, case.dot(0));
+    let (rig, mut correspondence) = (case.rig, case.correspondence(0));
     if source.once_in(2) {
         let factor = source.power();
-        dot.view1 = dot.view1.map(|value| value * factor);
+        correspondence.view1 = correspondence.view1.map(|value| value * factor);
     }
-    (head, dot)
+    (rig, correspondence)
 }
 
 /// A block of any kind.

@@ -1,14 +1,14 @@
 //! One list of calls, from a seed.
 
 use oracle::generate::{self, Source};
-use oracle::schur::{Dot, Head};
+use oracle::schur::{Correspondence, Rig};
 
 use crate::inputs::{self, MOST_BLOCKS};
 
 /// A call of `add`: what the block is made of, and the damping.
 pub struct Add {
-    pub head: Head,
-    pub dot: Dot,
+    pub rig: Rig,
+    pub correspondence: Correspondence,
     pub damping: f64,
     /// Where no block is made, one of +0 everywhere is taken.
     pub zeros_for_none: bool,
@@ -54,14 +54,14 @@ impl List {
     }
 }
 
-/// Calls with dots of two plates, and of none, in any order.
+/// Calls with correspondences of two plates, and of none, in any order.
 fn adds(source: &mut Source, count: usize, damping: f64) -> Vec<Add> {
     let plates = [0; 2].map(|_| generate::any_plate(source, count));
     let add = |index| {
-        let (head, dot) = match source.below(8) {
-            0..=3 => (plates[0].head, plates[0].dot(index)),
-            4..=6 => (plates[1].head, plates[1].dot(index)),
-            _ => inputs::dot(source),
+        let (rig, correspondence) = match source.below(8) {
+            0..=3 => (plates[0].rig, plates[0].correspondence(index)),
+            4..=6 => (plates[1].rig, plates[1].correspondence(index)),
+            _ => inputs::correspondence(source),
         };
         let damping = if source.once_in(6) {
             inputs::bad_damping(source)
@@ -69,8 +69,8 @@ fn adds(source: &mut Source, count: usize, damping: f64) -> Vec<Add> {
             damping
         };
         Add {
-            head,
-            dot,
+            rig,
+            correspondence,
             damping,
             zeros_for_none: source.once_in(2),
         }
