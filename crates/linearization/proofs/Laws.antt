@@ -17,7 +17,7 @@ use Rattle.linearization.specs.declared.views.Pose.{Pose}
 use Rattle.linearization.specs.declared.views.Correspondence.{Correspondence}
 use Rattle.linearization.specs.declared.views.LinearizedViews.{LinearizedViews}
 use Rattle.linearization.specs.Views.{goodDeviation, notSeen, weightedViews, linearizeViews}
-use Rattle.linearization.specs.Accumulate.{poseHessian, poseProducts}
+use Rattle.jacobians.specs.Accumulate.{poseHessian, poseGradient}
 use Rattle.linearization.specs.Linearize.{notMade, poseRows, sums, block, linearizePoint, terms, pointTerms}
 
 module _ (camera1 camera2 : PinholeCamera) (pose : Pose) (correspondence : Correspondence) (g : Bool) (t : g ≡ goodDeviation (correspondence .«inverse_deviation»)) where
@@ -58,7 +58,7 @@ module _ (camera1 camera2 : PinholeCamera) (pose : Pose) (correspondence : Corre
   some-terms r p k = rw (← e, ← u, not-false b p) k
 
 pub sums-are : (v : LinearizedViews) (cost squared : Float) (t : PointTerms) (h g : List Float) (n : Refusal) → t ≡ terms (v .first) (v .second)
-    → h ≡ poseHessian (poseRows (v .first)) (v .second .pose) → g ≡ poseProducts (poseRows (v .first)) (v .first .residual) (v .second .pose) (v .second .residual) → n ≡ none
+    → h ≡ poseHessian (poseRows (v .first)) (v .second .pose) → g ≡ poseGradient (poseRows (v .first)) (v .first .residual) (v .second .pose) (v .second .residual) → n ≡ none
     → record {
       «pose_hessian» = h;
       «cross_hessian» = t .«cross_hessian»;

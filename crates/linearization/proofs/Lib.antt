@@ -1,4 +1,3 @@
 -- Laws of the block maker.
 pub mod Laws
 pub mod Costs
-pub mod Columns

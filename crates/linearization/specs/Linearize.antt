@@ -16,7 +16,7 @@ use Rattle.linearization.specs.declared.views.View2.{View2}
 use Rattle.linearization.specs.declared.views.LinearizedViews.{LinearizedViews}
 use Rattle.linearization.specs.Loss.{norm, lossCost}
 use Rattle.linearization.specs.Views.{linearizeViews}
-use Rattle.linearization.specs.Accumulate.{poseHessian, crossHessian, pointHessian, poseProducts, pointProducts}
+use Rattle.jacobians.specs.Accumulate.{poseHessian, crossHessian, pointHessian, poseGradient, pointGradient}
 
 -- every number beside a refusal is +0
 unfoldable pub notMade : Refusal → LocalLinearization
@@ -40,7 +40,7 @@ unfoldable pub terms : View1 → View2 → PointTerms
 terms a b = record {
   «cross_hessian» = crossHessian (poseRows a) (a .point) (b .pose) (b .point);
   «point_hessian» = pointHessian (a .point) (b .point);
-  «point_gradient» = pointProducts (a .point) (a .residual) (b .point) (b .residual);
+  «point_gradient» = pointGradient (a .point) (a .residual) (b .point) (b .residual);
   refusal = none;
 }
 
@@ -53,7 +53,7 @@ sums v cost squared =
       «pose_hessian» = poseHessian (poseRows a) (b .pose);
       «cross_hessian» = t .«cross_hessian»;
       «point_hessian» = t .«point_hessian»;
-      «pose_gradient» = poseProducts (poseRows a) (a .residual) (b .pose) (b .residual);
+      «pose_gradient» = poseGradient (poseRows a) (a .residual) (b .pose) (b .residual);
       «point_gradient» = t .«point_gradient»;
       cost = cost;
       «squared_residual» = squared;

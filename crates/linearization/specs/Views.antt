@@ -19,7 +19,7 @@ use Rattle.linearization.specs.declared.views.View1.{View1}
 use Rattle.linearization.specs.declared.views.View2.{View2}
 use Rattle.linearization.specs.declared.views.LinearizedViews.{LinearizedViews}
 use Rattle.linearization.specs.Loss.{rowWeight}
-use Rattle.linearization.specs.Jacobians.{poseMotionJacobian, poseJacobian, pointJacobian}
+use Rattle.jacobians.specs.Jacobians.{poseMotionJacobian, poseJacobian, pointJacobian}
 
 -- row 4: inverse deviation not finite or ≤ 0
 unfoldable pub goodDeviation : Float → Bool

@@ -2,16 +2,11 @@
 // SPDX-License-Identifier: MIT OR Apache-2.0
 
 // The block maker of the two-view problem, `linearize_point` of kernel/two_view/schur.rs.
-mod accumulate;
-mod jacobians;
 mod linearize;
 mod loss;
 mod terms;
 mod views;
 
-pub use accumulate::from_columns;
-pub use jacobians::camera_point;
-pub use jacobians::rotate;
 pub use linearize::LocalLinearization;
 pub use linearize::linearize_point;
 pub use terms::PointTerms;

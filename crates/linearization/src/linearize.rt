@@ -4,13 +4,13 @@
 // The block maker: what one point adds to the system.
 ghost use mathlib.Core.Path.{_≡_};
 ghost use Rattle.linearization.specs.Linearize as Linearize;
-use crate::accumulate;
 use crate::loss;
 use crate::terms;
 use crate::views;
 use crate::views::Correspondence;
 use crate::views::LinearizedViews;
 use crate::views::Pose;
+use jacobians::accumulate;
 use projection::PinholeCamera;
 use refusal::Refusal;
 
@@ -89,7 +89,7 @@ fn sums(views: LinearizedViews, cost: f64, squared_residual: f64) -> LocalLinear
         pose_hessian: accumulate::pose_hessian(x, y),
         cross_hessian,
         point_hessian,
-        pose_gradient: accumulate::pose_products(x, r, y, s),
+        pose_gradient: accumulate::pose_gradient(x, r, y, s),
         point_gradient,
         cost,
         squared_residual,

@@ -5,13 +5,13 @@
 // the second pass over the points makes no more than this.
 ghost use mathlib.Core.Path.{_≡_};
 ghost use Rattle.linearization.specs.Linearize as Linearize;
-use crate::accumulate;
 use crate::linearize::LocalLinearization;
 use crate::views;
 use crate::views::Correspondence;
 use crate::views::Pose;
 use crate::views::View1;
 use crate::views::View2;
+use jacobians::accumulate;
 use projection::PinholeCamera;
 use refusal::Refusal;
 
@@ -76,7 +76,7 @@ pub(crate) fn terms(a: View1, b: View2) -> PointTerms
     PointTerms {
         cross_hessian: accumulate::cross_hessian(x, p, y, q),
         point_hessian: accumulate::point_hessian(p, q),
-        point_gradient: accumulate::point_products(p, r, q, s),
+        point_gradient: accumulate::point_gradient(p, r, q, s),
         refusal: Refusal::none(),
     }
 }

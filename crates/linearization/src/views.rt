@@ -4,9 +4,10 @@
 // Both views of a point, linearized and weighted: residuals, with their derivatives by the five
 // parameters of the pose and by the three coordinates of the point.
 ghost use mathlib.Core.Path.{_≡_};
+ghost use lib.ListN.{length};
 ghost use Rattle.linearization.specs.Views as Views;
-use crate::jacobians;
 use crate::loss;
+use jacobians::derivatives;
 use projection::PinholeCamera;
 use projection::Projected;
 use refusal::Refusal;
@@ -72,12 +73,12 @@ pub fn linearize_views(
     }
     let rotation = pose.rotation;
     let translation = pose.translation;
-    let rotated = jacobians::rotate(rotation, point);
+    let rotated = derivatives::rotate(rotation, point);
     let view2 = correspondence.view2;
     let second = projection::pixel_projection(
         camera2,
         view2,
-        jacobians::camera_point(rotated, translation),
+        derivatives::camera_point(rotated, translation),
     );
     let refusal2 = second.refusal;
     if !refusal2.is_none() {
@@ -149,9 +150,9 @@ fn second_rows(second: Projected, rotated: [f64; 3], pose: Pose, weight: f64) ->
     let jacobian = second.jacobian;
     let rotation = pose.rotation;
     let basis = pose.basis;
-    let motion = jacobians::pose_motion_jacobian(rotated, basis, pose.baseline);
-    let by_pose = jacobians::pose_jacobian(jacobian, motion);
-    let by_point = jacobians::point_jacobian(jacobian, rotation, pose.baseline);
+    let motion = derivatives::pose_motion_jacobian(rotated, basis, pose.baseline);
+    let by_pose = derivatives::pose_jacobian(jacobian, motion);
+    let by_point = derivatives::point_jacobian(jacobian, rotation, pose.baseline);
     second_view(residual, by_pose, by_point, weight)
 }
 
@@ -160,44 +161,36 @@ fn second_rows(second: Projected, rotated: [f64; 3], pose: Pose, weight: f64) ->
 fn first_view(residual: [f64; 2], j: [f64; 6], baseline: f64, weight: f64) -> View1
     ensures { λ r. ⌜ r ≡ Views.firstView residual j baseline weight ⌝ }
 {
+    let mut point = [0.0; 6];
+    for i in 0..6 {
+        point[i] = weight * (j[i] * baseline);
+    }
     View1 {
         residual: [weight * residual[0], weight * residual[1]],
         pose: weight * 0.0,
-        point: [
-            weight * (j[0] * baseline),
-            weight * (j[1] * baseline),
-            weight * (j[2] * baseline),
-            weight * (j[3] * baseline),
-            weight * (j[4] * baseline),
-            weight * (j[5] * baseline),
-        ],
+        point,
     }
 }
 
-fn second_view(residual: [f64; 2], pose: [f64; 10], point: [f64; 6], weight: f64) -> View2
-    ensures { λ r. ⌜ r ≡ Views.secondView residual pose point weight ⌝ }
+fn second_view(residual: [f64; 2], by_pose: [f64; 10], by_point: [f64; 6], weight: f64) -> View2
+    ensures { λ r. ⌜ r ≡ Views.secondView residual «by_pose» «by_point» weight ⌝ }
 {
+    let mut pose = by_pose;
+    let mut point = by_point;
+    weigh(&mut pose, weight);
+    weigh(&mut point, weight);
     View2 {
         residual: [weight * residual[0], weight * residual[1]],
-        pose: [
-            weight * pose[0],
-            weight * pose[1],
-            weight * pose[2],
-            weight * pose[3],
-            weight * pose[4],
-            weight * pose[5],
-            weight * pose[6],
-            weight * pose[7],
-            weight * pose[8],
-            weight * pose[9],
-        ],
-        point: [
-            weight * point[0],
-            weight * point[1],
-            weight * point[2],
-            weight * point[3],
-            weight * point[4],
-            weight * point[5],
-        ],
+        pose,
+        point,
+    }
+}
+
+// Each number times the weight
+fn weigh(x: &mut [f64], weight: f64)
+    ensures { λ _. ⌜ now (x .exit) ≡ Views.weighted (length (now (x .entry))) weight (now (x .entry)) ⌝ }
+{
+    for i in 0..x.len() {
+        x[i] = weight * x[i];
     }
 }

@@ -15,10 +15,10 @@ use Rattle.point_block.specs.Lone.{factor, goodDamping}
 use Rattle.schur.specs.System.{newSystem, add}
 use Rattle.schur.specs.Model.{finishDamping}
 use Rattle.linearization.specs.Linearize.{pointTerms}
-use Rattle.schur.specs.PointStep.{stepOf, stepped, notStepped, stepOfTerms, pointStep}
+use Rattle.point_step.specs.PointStep.{stepOf, stepped, notStepped, stepOfTerms, pointStep}
 use Rattle.linearization.specs.declared.linearize.LocalLinearization.{LocalLinearization}
 use Rattle.linearization.specs.declared.views.Correspondence.{Correspondence}
-use Rattle.schur.specs.declared.point_step.PointStep.{PointStep}
+use Rattle.point_step.specs.declared.PointStep.{PointStep}
 use Rattle.schur.specs.declared.system.ReducedSystem.{ReducedSystem}
 use Rattle.schur.specs.declared.system.Added.{Added}
 use Rattle.optimizer.specs.Problem.{Problem, count, correspondenceAt, blockOf}

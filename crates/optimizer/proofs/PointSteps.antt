@@ -15,8 +15,9 @@ use Rattle.refusal.specs.Refused.{none}
 use Rattle.point_block.specs.Lone.{goodDamping}
 use Rattle.point_block.proofs.Laws.{lone-factors}
 use Rattle.linearization.specs.Linearize.{pointTerms}
-use Rattle.schur.specs.Model.{dampedHessian, withHessian, finishDamping, isValid}
-use Rattle.schur.specs.PointStep.{stepped, stepOfTerms, pointStep}
+use Rattle.normal_equations.specs.PoseModel.{dampedHessian}
+use Rattle.schur.specs.Model.{withHessian, finishDamping, isValid}
+use Rattle.point_step.specs.PointStep.{stepped, stepOfTerms, pointStep}
 use Rattle.schur.specs.System.{newSystem}
 use Rattle.schur.specs.Claim.{WeakCount}
 use Rattle.schur.specs.Calls.{Inputs, Call, atDamping, after, factors, smallRcond, atZero, blocksIn, every, those}

@@ -19,10 +19,10 @@ use Rattle.solver.specs.Solver.{solvePositiveDefinite}
 use Rattle.solver.specs.declared.Solved.{Solved}
 use Rattle.schur.specs.System.{newSystem, add}
 use Rattle.schur.specs.Model.{finishDamping, isValid, gradientInfNorm, predictedReduction}
-use Rattle.schur.specs.PointStep.{pointStep}
+use Rattle.point_step.specs.PointStep.{pointStep}
 use Rattle.schur.specs.declared.system.ReducedSystem.{ReducedSystem}
 use Rattle.linearization.specs.declared.views.Correspondence.{Correspondence}
-use Rattle.schur.specs.declared.point_step.PointStep.{PointStep}
+use Rattle.point_step.specs.declared.PointStep.{PointStep}
 use Rattle.optimizer.specs.declared.Rig.{Rig}
 use Rattle.optimizer.specs.declared.StepResult.{StepResult}
 use Rattle.optimizer.specs.declared.point_steps.Sums.{Sums}

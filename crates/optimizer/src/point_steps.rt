@@ -11,7 +11,7 @@ ghost use Rattle.optimizer.specs.Step as Steps;
 use crate::Rig;
 use crate::correspondences;
 use linearization::Correspondence;
-use schur::PointStep;
+use point_step::PointStep;
 
 // The squared lengths of the point steps and their damping norms, summed
 pub struct Sums {
@@ -67,7 +67,7 @@ fn point_step(
 ) -> PointStep
     ensures { λ r. ⌜ r ≡ Steps.pointStepOf rig correspondence damping «pose_step» ⌝ }
 {
-    schur::step_of_terms(
+    point_step::step_of_terms(
         correspondences::terms_of(rig, correspondence),
         damping,
         pose_step,

@@ -21,7 +21,7 @@ use Rattle.record.specs.Lists.{list}
 use Rattle.linearization.specs.Linearize as Linearize
 use Rattle.schur.specs.System as System
 use Rattle.schur.specs.Model as Model
-use Rattle.schur.specs.PointStep as PointStep
+use Rattle.point_step.specs.PointStep as PointStep
 use Rattle.schur.specs.declared.system.ReducedSystem.{ReducedSystem}
 use Rattle.optimizer.specs.Problem.{Problem}
 use Rattle.optimizer.specs.Step as Step

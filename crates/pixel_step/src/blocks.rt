@@ -46,7 +46,7 @@ pub extern "C" fn pixel_step_point_step_with_damping_norm(
         return memory::lengths();
     }
     let b = flat::block(block);
-    let p = schur::point_step_with_damping_norm(b, damping, memory::vector5(pose_step));
+    let p = point_step::point_step_with_damping_norm(b, damping, memory::vector5(pose_step));
     let refusal = p.refusal;
     let s = p.step;
     let values = [s[0], s[1], s[2], p.damping_norm];

@@ -103,7 +103,11 @@ pub fn system_predicted_reduction(case: Case) -> Outcome {
 pub fn point_step(case: Case) -> Outcome {
     let mut pose_step = [0.0; 5];
     case.fill(60, &mut pose_step);
-    let moved = schur::point_step_with_damping_norm(block(case, 0), case.number(59), pose_step);
+    let moved = point_step::point_step_with_damping_norm(
+        block(case, 0),
+        case.number(59),
+        pose_step,
+    );
     let step = moved.step;
     Outcome::of(case, moved.refusal)
         .with(&step)

@@ -2,14 +2,13 @@
 use mathlib.Core.Path.{_≡_, refl}
 use mathlib.Core.Bool.{Bool, true, false, not, cond}
 use mathlib.Core.List.{List}
-use Prim.Native.Nat.{ℕ, _+_, _*_, _<_, _≤_}
+use Prim.Native.Nat.{ℕ, _+_, _<_, _≤_}
 use native.Mathlib.Numerals.{add-one}
 use borrow.Author.Tests.{not-true, not-false}
 use lib.Dec.{leb, ltb, leb→le, ltb→lt}
 use lib.Ieee.{Float, eq, le}
 use Rattle.number.specs.Binary64.{_⊕_, zero, epsilon192}
 use Rattle.number.specs.Extrema.{max, min}
-use Rattle.number.specs.Vectors.{_!_, tabulate}
 use Rattle.refusal.specs.Rows as Rows
 use Rattle.refusal.specs.Refused.{of, none, isNone}
 use Rattle.refusal.specs.declared.Refusal.{Refusal}
@@ -19,8 +18,11 @@ use Rattle.point_block.specs.declared.PointBlockFactor.{PointBlockFactor}
 use Rattle.linearization.specs.declared.linearize.LocalLinearization.{LocalLinearization}
 use Rattle.schur.specs.declared.system.ReducedSystem.{ReducedSystem}
 use Rattle.schur.specs.declared.system.Eliminated.{Eliminated}
-use Rattle.schur.specs.Model.{dampedHessian, withHessian, finishDamping, reductionOf, predictedReduction}
-use Rattle.schur.specs.System.{maxBlocks, raised, pointGradientNorm, reducedHessian, reducedGradient, pointReduction, isWeak, notEliminated, eliminated, elimination, takenWith, taken, add}
+use Rattle.normal_equations.specs.Elimination.{reducedHessian, reducedGradient, pointReduction}
+use Rattle.normal_equations.specs.GradientNorm.{pointGradientNorm}
+use Rattle.normal_equations.specs.PoseModel.{dampedHessian, sum5, diagonal5}
+use Rattle.schur.specs.Model.{withHessian, finishDamping, reductionOf, predictedReduction}
+use Rattle.schur.specs.System.{maxBlocks, raised, isWeak, notEliminated, eliminated, elimination, takenWith, taken, add}
 
 pub below : (m n : ℕ) → not (ltb m n) ≡ false → m < n
 below m n h = ltb→lt m n (rw (not-false (ltb m n) h) tt)
@@ -29,22 +31,23 @@ pub at-most : (m n : ℕ) → not (leb m n) ≡ false → m ≤ n
 at-most m n h = leb→le m n (rw (not-false (leb m n) h) tt)
 
 -- what every block brings
-pub takes-with : (s : ReducedSystem) (b : LocalLinearization) (e : Eliminated) (k m : Float) → k ≡ pointGradientNorm b → m ≡ max (s .«scaled_point_gradient_inf_norm») k → record {
-  hessian = e .hessian;
-  gradient = e .gradient;
-  cost = s .cost ⊕ b .cost;
-  «squared_residual» = s .«squared_residual» ⊕ b .«squared_residual»;
-  «full_pose_gradient» = tabulate 5 (λ i. s .«full_pose_gradient» ! i ⊕ b .«pose_gradient» ! i);
-  «pose_diagonal» = tabulate 5 (λ i. s .«pose_diagonal» ! i ⊕ b .«pose_hessian» ! (6 * i));
-  «point_model_reduction» = e .«point_model_reduction»;
-  «scaled_point_gradient_inf_norm» = m;
-  «weak_point_count» = e .«weak_point_count»;
-  «minimum_point_rcond» = e .«minimum_point_rcond»;
-  valid = e .valid;
-  «block_count» = s .«block_count» + 1;
-} ≡ takenWith s b e
+pub takes-with : (s : ReducedSystem) (b : LocalLinearization) (e : Eliminated) (g d x : List Float) (k m : Float) → g ≡ sum5 (s .«full_pose_gradient») (b .«pose_gradient»)
+    → x ≡ diagonal5 (b .«pose_hessian») → d ≡ sum5 (s .«pose_diagonal») x → k ≡ pointGradientNorm b → m ≡ max (s .«scaled_point_gradient_inf_norm») k → record {
+      hessian = e .hessian;
+      gradient = e .gradient;
+      cost = s .cost ⊕ b .cost;
+      «squared_residual» = s .«squared_residual» ⊕ b .«squared_residual»;
+      «full_pose_gradient» = g;
+      «pose_diagonal» = d;
+      «point_model_reduction» = e .«point_model_reduction»;
+      «scaled_point_gradient_inf_norm» = m;
+      «weak_point_count» = e .«weak_point_count»;
+      «minimum_point_rcond» = e .«minimum_point_rcond»;
+      valid = e .valid;
+      «block_count» = s .«block_count» + 1;
+    } ≡ takenWith s b e
 unfolding takenWith
-takes-with s b e k m ek em = rw (em, ek, add-one (s .«block_count»)) refl
+takes-with s b e g d x k m eg ex ed ek em = rw (eg, ed, ex, em, ek, add-one (s .«block_count»)) refl
 
 module _ (s : ReducedSystem) (b : LocalLinearization) (damping : Float) where
   module _ (i h g : List Float) (x : Float) (eh : h ≡ reducedHessian (s .hessian) i b) (eg : g ≡ reducedGradient (s .gradient) i b)

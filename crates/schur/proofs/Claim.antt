@@ -23,7 +23,8 @@ use Rattle.point_block.proofs.Laws.{lone-factors, rcond-nonneg}
 use Rattle.linearization.specs.declared.linearize.LocalLinearization.{LocalLinearization}
 use Rattle.schur.specs.declared.system.ReducedSystem.{ReducedSystem}
 use Rattle.schur.specs.declared.system.Added.{Added}
-use Rattle.schur.specs.System.{maxBlocks, newSystem, isZero, isWeak, raised, reducedHessian, reducedGradient, pointReduction, notEliminated, eliminated, elimination, takenWith, taken, add}
+use Rattle.normal_equations.specs.Elimination.{reducedHessian, reducedGradient, pointReduction}
+use Rattle.schur.specs.System.{maxBlocks, newSystem, isZero, isWeak, raised, notEliminated, eliminated, elimination, takenWith, taken, add}
 use Rattle.schur.specs.Calls.{Inputs, made, Call, atDamping, atRefused, added, results, after, afterBlocks, Tally, factors, smallRcond, room, takenIn, tally, refusals, blocksIn, every, those}
 use Rattle.linearization.proofs.Costs.{Costs, made-costs}
 use Rattle.schur.specs.Claim.{CallByCall, final, SameEquations, Further, Claim}

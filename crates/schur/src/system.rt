@@ -8,10 +8,10 @@ ghost use Prim.Native.Nat.{_<_};
 ghost use Rattle.number.specs.Binary64 as Binary64;
 ghost use Rattle.schur.specs.Model as Model;
 ghost use Rattle.schur.specs.System as System;
-use crate::eliminate;
-use crate::gradient_norm;
-use crate::model;
 use linearization::LocalLinearization;
+use normal_equations::elimination;
+use normal_equations::gradient_norm;
+use normal_equations::pose_model;
 use point_block::PointBlockFactor;
 use refusal::Refusal;
 
@@ -117,7 +117,7 @@ impl ReducedSystem {
         let h = self.hessian;
         let d = self.pose_diagonal;
         Added {
-            system: self.with_hessian(model::damped_hessian(h, d, damping)),
+            system: self.with_hessian(pose_model::damped_hessian(h, d, damping)),
             refusal: Refusal::none(),
         }
     }
@@ -171,9 +171,10 @@ impl ReducedSystem {
         let hessian = self.hessian;
         let diagonal = self.pose_diagonal;
         let damped = self.point_model_reduction
-            - model::dot5(gradient, step)
-            - 0.5 * model::quadratic(hessian, step);
-        damped + 0.5 * damping * (model::pose_damping_norm(diagonal, step) + point_damping_norm)
+            - pose_model::dot5(gradient, step)
+            - 0.5 * pose_model::quadratic(hessian, step);
+        damped
+            + 0.5 * damping * (pose_model::pose_damping_norm(diagonal, step) + point_damping_norm)
     }
 
     fn with_hessian(mut self, hessian: [f64; 25]) -> Self
@@ -217,9 +218,9 @@ impl ReducedSystem {
     {
         let h = self.hessian;
         let g = self.gradient;
-        let hessian = eliminate::reduced_hessian(h, factor, local);
-        let gradient = eliminate::reduced_gradient(g, factor, local);
-        let reduction = eliminate::point_reduction(self.point_model_reduction, factor, local);
+        let hessian = elimination::reduced_hessian(h, factor, local);
+        let gradient = elimination::reduced_gradient(g, factor, local);
+        let reduction = elimination::point_reduction(self.point_model_reduction, factor, local);
         let mut weak = self.weak_point_count;
         let mut smallest = self.minimum_point_rcond;
         if damping == 0.0 {
@@ -263,29 +264,17 @@ impl ReducedSystem {
     {
         let hessian = change.hessian;
         let gradient = change.gradient;
-        let g = self.full_pose_gradient;
-        let d = self.pose_diagonal;
-        let x = local.pose_gradient;
-        let h = local.pose_hessian;
+        let full_gradient = self.full_pose_gradient;
+        let diagonal = self.pose_diagonal;
+        let pose_gradient = local.pose_gradient;
+        let pose_hessian = local.pose_hessian;
         Self {
             hessian,
             gradient,
             cost: self.cost + local.cost,
             squared_residual: self.squared_residual + local.squared_residual,
-            full_pose_gradient: [
-                g[0] + x[0],
-                g[1] + x[1],
-                g[2] + x[2],
-                g[3] + x[3],
-                g[4] + x[4],
-            ],
-            pose_diagonal: [
-                d[0] + h[0],
-                d[1] + h[6],
-                d[2] + h[12],
-                d[3] + h[18],
-                d[4] + h[24],
-            ],
+            full_pose_gradient: pose_model::sum5(full_gradient, pose_gradient),
+            pose_diagonal: pose_model::sum5(diagonal, pose_model::diagonal5(pose_hessian)),
             point_model_reduction: change.point_model_reduction,
             scaled_point_gradient_inf_norm: number::max(
                 self.scaled_point_gradient_inf_norm,

@@ -6,7 +6,7 @@ use Rattle.linearization.proofs.linearize.sums.Statement.{statement}
 use Rattle.linearization.proofs.linearize.sums.Tie as tie
 
 returns : tie.Need-returns
-returns c = sums-are _ _ _ _ _ _ _ (c .before .before .before .before .before .before .terms .ensures) (c .before .before .pose-hessian .ensures) (c .before .pose-products .ensures) (c .none .ensures)
+returns c = sums-are _ _ _ _ _ _ _ (c .before .before .before .before .before .before .terms .ensures) (c .before .before .pose-hessian .ensures) (c .before .pose-gradient .ensures) (c .none .ensures)
 
 pub sums-spec : {M : Type 1} → statement M
 sums-spec =

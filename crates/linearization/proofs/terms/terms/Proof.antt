@@ -8,7 +8,7 @@ use Rattle.linearization.proofs.terms.terms.Tie as tie
 
 returns : tie.Need-returns
 unfolding terms
-returns c = rw (c .none .ensures, c .before .point-products .ensures, c .before .before .point-hessian .ensures, c .before .before .before .cross-hessian .ensures) refl
+returns c = rw (c .none .ensures, c .before .point-gradient .ensures, c .before .before .point-hessian .ensures, c .before .before .before .cross-hessian .ensures) refl
 
 pub terms-spec : {M : Type 1} → statement M
 terms-spec =

@@ -1,5 +1,5 @@
 -- `optimizer::point_steps::point_step` meets its contract. Assumes nothing.
-use Rattle.schur.specs.PointStep.{pointStep}
+use Rattle.point_step.specs.PointStep.{pointStep}
 use Rattle.optimizer.specs.Step.{pointStepOf}
 use borrow.Author.Needs.{needs}
 use Rattle.optimizer.proofs.point_steps.point_step.Statement.{statement}

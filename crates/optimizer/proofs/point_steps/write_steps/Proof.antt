@@ -1,7 +1,7 @@
 -- `optimizer::point_steps::write_steps` meets its contract. Assumes nothing.
 use lib.ListN.{length, set}
 use lib.Seq.{lt-length-set}
-use Rattle.schur.specs.declared.point_step.PointStep.{PointStep}
+use Rattle.point_step.specs.declared.PointStep.{PointStep}
 use Rattle.optimizer.specs.Problem.{problem}
 use Rattle.optimizer.specs.Step.{sumsTo}
 use Rattle.optimizer.proofs.Passes.{stepped-at, Filled, room-none, room-length, room-next, room-full, sums-none, squared-next, norm-next, both-sums}

@@ -4,9 +4,9 @@ use mathlib.Core.List.{List, [], _∷_}
 use lib.ListN.{length}
 use lib.Ieee.{Float}
 use Rattle.number.specs.Vectors.{_!_}
-use Rattle.schur.specs.PointStep as PointStep
+use Rattle.point_step.specs.PointStep as PointStep
 use Rattle.linearization.specs.declared.linearize.LocalLinearization.{LocalLinearization}
-use Rattle.schur.specs.declared.point_step.PointStep as Stepped
+use Rattle.point_step.specs.declared.PointStep as Stepped
 use Rattle.pixel_step.specs.Flat.{block}
 use Rattle.pixel_step.specs.Interface.{pointStep}
 use Rattle.pixel_step.proofs.Laws.{too-short, answers, three-fit}

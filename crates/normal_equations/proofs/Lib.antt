@@ -1,0 +1,3 @@
+-- Laws of the pose's equations.
+pub mod Norms
+pub mod Rows

@@ -1,0 +1,26 @@
+-- `normal_equations::pose_model::dot5` meets its contract. Assumes nothing.
+use Rattle.normal_equations.specs.PoseModel.{dot5}
+use mathlib.Core.Path.{refl}
+use native.Mathlib.Omega.{arith}
+use Rattle.normal_equations.proofs.pose_model.dot5.Statement.{statement}
+use Rattle.normal_equations.proofs.pose_model.dot5.Tie as tie
+
+returns : tie.Need-returns
+unfolding dot5
+returns c = refl
+
+pub dot5-spec : {M : Type 1} → statement M
+dot5-spec =
+    tie.close
+    (tie.spec
+    (λ c. omega arith)
+    (λ c. omega arith)
+    (λ c. omega arith)
+    (λ c. omega arith)
+    (λ c. omega arith)
+    (λ c. omega arith)
+    (λ c. omega arith)
+    (λ c. omega arith)
+    (λ c. omega arith)
+    (λ c. omega arith)
+    returns)

@@ -1,0 +1,2 @@
+-- The step of a point: schur.rs.
+pub mod PointStep
