@@ -136,10 +136,16 @@ impl PointBlockFactor {
         ensures { λ r. ⌜ r ≡ Factor.solve (self .inverse) x ⌝ }
     {
         let i = self.inverse;
+        let i10 = i[1];
+        let i20 = i[3];
+        let i21 = i[4];
+        let x0 = x[0];
+        let x1 = x[1];
+        let x2 = x[2];
         [
-            i[0] * x[0] + i[1] * x[1] + i[3] * x[2],
-            i[1] * x[0] + i[2] * x[1] + i[4] * x[2],
-            i[3] * x[0] + i[4] * x[1] + i[5] * x[2],
+            i[0] * x0 + i10 * x1 + i20 * x2,
+            i10 * x0 + i[2] * x1 + i21 * x2,
+            i20 * x0 + i21 * x1 + i[5] * x2,
         ]
     }
 
@@ -238,13 +244,19 @@ fn scale_of(m: [f64; 9]) -> [f64; 3]
 fn scaled_of(m: [f64; 9], s: [f64; 3]) -> [f64; 6]
     ensures { λ r. ⌜ r ≡ Factor.scaledOf m s ⌝ }
 {
+    let m00 = m[0];
+    let m11 = m[4];
+    let m22 = m[8];
+    let s0 = s[0];
+    let s1 = s[1];
+    let s2 = s[2];
     [
-        0.5 * (m[0] + m[0]) / (s[0] * s[0]),
-        0.5 * (m[3] + m[1]) / (s[1] * s[0]),
-        0.5 * (m[4] + m[4]) / (s[1] * s[1]),
-        0.5 * (m[6] + m[2]) / (s[2] * s[0]),
-        0.5 * (m[7] + m[5]) / (s[2] * s[1]),
-        0.5 * (m[8] + m[8]) / (s[2] * s[2]),
+        0.5 * (m00 + m00) / (s0 * s0),
+        0.5 * (m[3] + m[1]) / (s1 * s0),
+        0.5 * (m11 + m11) / (s1 * s1),
+        0.5 * (m[6] + m[2]) / (s2 * s0),
+        0.5 * (m[7] + m[5]) / (s2 * s1),
+        0.5 * (m22 + m22) / (s2 * s2),
     ]
 }
 
