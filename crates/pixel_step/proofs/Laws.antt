@@ -20,7 +20,7 @@ use Rattle.optimizer.specs.declared.Rig.{Rig}
 use Rattle.optimizer.specs.declared.StepResult.{StepResult}
 use Rattle.pixel_step.specs.Flat.{part, put, rig, system, systemNumbers, systemCounts, stepNumbers, stepCount}
 use Rattle.pixel_step.specs.Interface.{code, lengthsCode, stored, answer, Answered, change, Changed, long, step, Stepped, Listed}
-use Rattle.record.specs.Text.{pasted}
+use Rattle.text.specs.Text.{pasted}
 use Rattle.record.specs.Lists.{list, Wrote}
 use Rattle.record.specs.declared.list.Written.{Written}
 

@@ -16,7 +16,7 @@ use Rattle.point_block.specs.Factor as Factor
 use Rattle.point_block.specs.Condition as Condition
 use Rattle.point_block.specs.Lone as Lone
 use Rattle.solver.specs.Solver as Solver
-use Rattle.record.specs.Text.{pasted}
+use Rattle.text.specs.Text.{pasted}
 use Rattle.record.specs.Lists.{list}
 use Rattle.linearization.specs.Linearize as Linearize
 use Rattle.schur.specs.System as System

@@ -11,7 +11,7 @@ use Rattle.optimizer.specs.Problem.{Problem}
 use Rattle.optimizer.specs.Checks as Checks
 use Rattle.optimizer.specs.Step.{reducedSystem, noSystem, reduced}
 use Rattle.optimizer.specs.declared.reduced.Reduced.{Reduced}
-use Rattle.record.specs.Form as Form
+use Rattle.record_form.specs.Form as Form
 use Rattle.record.specs.Run.{run}
 use Rattle.record.specs.Lists.{refusedLine, linesOf, refused, list}
 

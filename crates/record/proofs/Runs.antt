@@ -14,11 +14,11 @@ use Rattle.linearization.specs.declared.views.Correspondence.{Correspondence}
 use Rattle.linearization.specs.declared.linearize.LocalLinearization.{LocalLinearization}
 use Rattle.optimizer.specs.declared.Rig.{Rig}
 use Rattle.optimizer.specs.Problem.{Problem, problem, correspondenceAt, blockOf, blockAt}
-use Rattle.record.specs.Form.{pointFields, Formed}
+use Rattle.record_form.specs.Form.{pointFields}
 use Rattle.record.specs.Run.{numberAt, rig, damping, column, run, correspondenceOf}
 use Rattle.record.specs.Lists.{letter, pointLine, pointLines}
-use Rattle.record.specs.Text.{Put}
-use Rattle.record.proofs.Puts.{put-none, put-same, put-put}
+use Rattle.text.specs.Text.{Put}
+use Rattle.text.proofs.Puts.{put-none, put-same, put-put}
 
 entry : (n : ℕ) (f : ℕ → Float) (i : ℕ) → i < n → tabulate n f ! i ≡ f i
 entry zero f i h = absurd (omega arith)
@@ -92,7 +92,3 @@ pub run-is : (r : List ℕ) (p v w d : List Float) (x : Rig) (y : Float) (lp lv 
     → problem p v w d x y ≡ run r
 unfolding run
 run-is r p v w d x y lp lv lw ld e₁ e₂ e₃ e₄ e₅ e₆ e₇ e₈ e₉ e = rw (e₁, e₂, e₃, e₄, e₅, e₆, e₇, e₈, e₉, e) refl
-
--- a record of the right form has 512 points at most
-pub few-points : (r : List ℕ) → Formed r → pointFields r ≤ 512
-few-points r f = let e = f .0 in let h = f .1 in omega arith

@@ -18,9 +18,9 @@ use Rattle.optimizer.specs.Problem.{Problem, blockAt}
 use Rattle.optimizer.specs.Checks as Checks
 use Rattle.optimizer.specs.Step.{reducedSystem}
 use Rattle.hex.specs.Hex.{digits}
-use Rattle.record.specs.Form as Form
+use Rattle.record_form.specs.Form as Form
 use Rattle.record.specs.Run.{run, damping}
-use Rattle.record.specs.Text.{space, lineFeed, decimal, pasted}
+use Rattle.text.specs.Text.{space, lineFeed, decimal, pasted}
 use Rattle.record.specs.declared.list.Written.{Written}
 
 -- a space, the bits of a number as 16 capital hex digits, and what follows them

@@ -7,7 +7,7 @@ use Rattle.projection.specs.declared.PinholeCamera.{PinholeCamera}
 use Rattle.linearization.specs.declared.views.Correspondence.{Correspondence}
 use Rattle.optimizer.specs.declared.Rig.{Rig}
 use Rattle.optimizer.specs.Problem.{Problem, problem}
-use Rattle.record.specs.Form.{byte, camera1At, camera2At, poseAt, basisAt, dampingAt, pointsAt, pointFields}
+use Rattle.record_form.specs.Form.{byte, camera1At, camera2At, poseAt, basisAt, dampingAt, pointsAt, pointFields}
 
 -- four bytes, then eight, low byte first
 abbrev pub half : List ℕ → ℕ → ℕ

@@ -1,8 +1,7 @@
 // The lines of a list.
 ghost use mathlib.Core.Path.{_≡_};
 ghost use Rattle.record.specs.Lists as Lists;
-ghost use Rattle.record.specs.Text as Text;
-use crate::text;
+ghost use Rattle.text.specs.Text as Text;
 use linearization::LocalLinearization;
 use point_block::PointBlockFactor;
 use refusal::Refusal;

@@ -3,14 +3,12 @@ ghost use mathlib.Core.Path.{_≡_};
 ghost use Prim.Native.Nat.{_*_};
 ghost use lib.ListN.{length};
 ghost use Rattle.optimizer.specs.Step as Steps;
-ghost use Rattle.record.specs.Form as Form;
+ghost use Rattle.record_form.specs.Form as Form;
 ghost use Rattle.record.specs.Lists as Lists;
 ghost use Rattle.record.specs.Run as Run;
-ghost use Rattle.record.specs.Text as Text;
-use crate::fields;
+ghost use Rattle.text.specs.Text as Text;
 use crate::lines;
 use crate::run;
-use crate::text;
 use schur::ReducedSystem;
 
 // No list has more bytes.
@@ -45,7 +43,7 @@ pub fn write_list(record: &[u8], out: &mut [u8]) -> Written
 fn put_list(out: &mut [u8], record: &[u8]) -> usize
     ensures { λ r. ⌜ Text.Put (Lists.list (now («record» .entry))) 0 (now (out .entry)) r (now (out .exit)) ⌝ }
 {
-    let refusal = fields::refused(record);
+    let refusal = record_form::refused(record);
     if !refusal.is_none() {
         return lines::put_refused(out, 0, refusal);
     }
@@ -63,7 +61,7 @@ fn reduced_system(record: &[u8]) -> optimizer::Reduced
     requires { ⌜ Form.Formed (now «record») ⌝ }
     ensures { λ r. ⌜ r ≡ Steps.reduced (Run.run (now («record» .entry))) ⌝ }
 {
-    let n = fields::point_fields(record);
+    let n = record_form::point_fields(record);
     let mut points = [0.0; 3 * MAX_POINTS];
     let mut view1 = [0.0; 2 * MAX_POINTS];
     let mut view2 = [0.0; 2 * MAX_POINTS];
@@ -94,7 +92,7 @@ fn reduced_in<'a>(
     run::read_column(record, 40, 2, view2);
     run::read_column(record, 56, 1, deviations);
     let rig = run::rig_of(record);
-    let damping = run::number_at(record, fields::DAMPING_AT + 3);
+    let damping = run::number_at(record, record_form::DAMPING_AT + 3);
     optimizer::reduced_system(points, view1, view2, deviations, rig, damping)
 }
 
@@ -103,8 +101,8 @@ fn put_lines(out: &mut [u8], record: &[u8], system: ReducedSystem) -> usize
     requires { ⌜ Form.Formed (now «record») ⌝ }
     ensures { λ r. ⌜ Text.Put (Lists.linesOf (now («record» .entry)) system) 0 (now (out .entry)) r (now (out .exit)) ⌝ }
 {
-    let n = fields::point_fields(record);
-    let damping = run::number_at(record, fields::DAMPING_AT + 3);
+    let n = record_form::point_fields(record);
+    let damping = run::number_at(record, record_form::DAMPING_AT + 3);
     let points_at = lines::put_run(out, 0, n as u32, damping);
     let sum_at = put_points(out, points_at, record);
     lines::put_sum(out, sum_at, system)
@@ -116,9 +114,9 @@ fn put_points(out: &mut [u8], start: usize, record: &[u8]) -> usize
     ensures { λ r. ⌜ Text.Put (Lists.pointLines (Run.run (now («record» .entry))) (Form.pointFields (now («record» .entry)))) start (now (out .entry)) r (now (out .exit)) ⌝ }
 {
     let rig = run::rig_of(record);
-    let damping = run::number_at(record, fields::DAMPING_AT + 3);
+    let damping = run::number_at(record, record_form::DAMPING_AT + 3);
     let mut at = start;
-    for i in 0..fields::point_fields(record) {
+    for i in 0..record_form::point_fields(record) {
         let letter = lines::letter(run::block_at(record, rig, i), damping);
         at = lines::put_point(out, at, i as u32, letter);
     }

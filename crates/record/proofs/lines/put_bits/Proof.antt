@@ -1,5 +1,5 @@
 -- `record::lines::put_bits` meets its contract. Assumes nothing.
-use Rattle.record.proofs.Puts.{put-same, put-put}
+use Rattle.text.proofs.Puts.{put-same, put-put}
 use mathlib.Core.Path.{ap, _∙_}
 use Prim.Native.Nat.{ℕ}
 use Rattle.hex.specs.Hex.{digits}

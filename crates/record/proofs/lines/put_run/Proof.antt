@@ -1,5 +1,5 @@
 -- `record::lines::put_run` meets its contract. Assumes nothing.
-use Rattle.record.proofs.Puts.{put-put}
+use Rattle.text.proofs.Puts.{put-put}
 use Rattle.record.specs.Lists.{runLine}
 use native.Mathlib.Omega.{arith}
 use borrow.Author.Needs.{needs}

@@ -1,5 +1,5 @@
 -- `record::lines::put_sum` meets its contract. Assumes nothing.
-use Rattle.record.proofs.Puts.{put-same, put-put}
+use Rattle.text.proofs.Puts.{put-same, put-put}
 use Rattle.record.specs.Lists.{sumLine}
 use mathlib.Core.Path.{refl}
 use native.Mathlib.Omega.{arith}

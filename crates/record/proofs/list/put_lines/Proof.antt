@@ -3,8 +3,8 @@ use mathlib.Core.Path.{_≡_, ap, _∙_}
 use mathlib.Core.List.{_++_}
 use Rattle.record.specs.Run.{run, damping}
 use Rattle.record.specs.Lists.{pointLines, sumLine, runLine, linesOf}
-use Rattle.record.specs.Form.{pointFields}
-use Rattle.record.proofs.Puts.{put-put, put-same}
+use Rattle.record_form.specs.Form.{pointFields}
+use Rattle.text.proofs.Puts.{put-put, put-same}
 use Prim.Native.Nat.{ℕ}
 use lib.Ieee.{Float}
 use native.Mathlib.Omega.{arith}

@@ -1,7 +1,7 @@
 -- `record::list::put_list` meets its contract. Assumes nothing.
-use Rattle.record.specs.Form.{Formed}
-use Rattle.record.proofs.Puts.{put-same}
-use Rattle.record.proofs.Forms.{formed}
+use Rattle.record_form.specs.Form.{Formed}
+use Rattle.text.proofs.Puts.{put-same}
+use Rattle.record_form.proofs.Forms.{formed}
 use Rattle.record.proofs.Listed.{form-refused, form-passed, run-refused, run-listed}
 use borrow.Author.Needs.{needs}
 use Rattle.record.proofs.list.put_list.Statement.{statement}

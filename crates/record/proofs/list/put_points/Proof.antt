@@ -1,9 +1,9 @@
 -- `record::list::put_points` meets its contract. Assumes nothing.
-use Rattle.record.proofs.Puts.{put-same}
-use Rattle.record.specs.Form.{pointFields}
+use Rattle.text.proofs.Puts.{put-same}
+use Rattle.record_form.specs.Form.{pointFields}
 use Rattle.record.specs.Run.{run}
 use Rattle.record.specs.Lists.{pointLines}
-use Rattle.record.specs.Text.{Put}
+use Rattle.text.specs.Text.{Put}
 use Rattle.record.proofs.Runs.{next-line, no-lines}
 use lib.ListN.{length}
 use mathlib.Core.Path.{ap, _∙_, _≡_, refl}

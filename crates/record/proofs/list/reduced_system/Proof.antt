@@ -1,4 +1,4 @@
-use Rattle.record.proofs.Runs.{few-points}
+use Rattle.record_form.proofs.Forms.{few-points}
 use lib.Seq.{length-take-le}
 use native.Mathlib.Omega.{arith}
 use Prim.Native.Nat.{ℕ, _*_, _≤_}

@@ -2,7 +2,7 @@
 use mathlib.Core.Path.{sym, _∙_, _≡_, refl}
 use lib.ListN.{length, length-set}
 use Rattle.number.proofs.Fill.{filled, fill-next, fill-all}
-use Rattle.record.specs.Form.{pointFields}
+use Rattle.record_form.specs.Form.{pointFields}
 use Rattle.record.specs.Run.{column}
 use Rattle.record.proofs.Runs.{quotient, place}
 use Prim.Native.Nat.{_/_, _%_, _-_, _≤_, _<_}
