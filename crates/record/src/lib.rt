@@ -1,5 +1,4 @@
 // The list of a run record, and the run it holds: document 01, "Run record and its list".
-mod lines;
 mod list;
 mod run;
 

@@ -60,6 +60,11 @@ module _ (s t : List ℕ) (at : ℕ) (out : List ℕ) (middle : ℕ) (between : 
       let g = q j in
       (g .0 ∙ omega arith, g .1 ∙ ap (λ (k : ℕ). pasted between k t) (f .0) ∙ ap (λ (b : List ℕ). pasted b (at + length s) t) (f .1) ∙ both-pasted i)
 
+-- a text, and then two
+pub put-then : (s t u : List ℕ) (at : ℕ) (out : List ℕ) (middle : ℕ) (between : List ℕ) (next : ℕ) (after : List ℕ)
+    → Put s at out middle between → Put (t ++ u) middle between next after → Put (s ++ t ++ u) at out next after
+put-then s t u at out middle between next after p q = put-same _ _ at out next after (sym (append-assoc s t u)) (put-put s (t ++ u) at out middle between next after p q)
+
 -- ---- without the zeros before a number
 
 module _ (l : List ℕ) (i : ℕ) (h : i < 9) (k : i < length l) where

@@ -1,4 +1,5 @@
 // Text in a lent buffer.
+ghost use mathlib.Core.List.{_++_};
 ghost use mathlib.Core.Path.{_≡_};
 ghost use Prim.Native.Nat.{_≤_, _+_};
 ghost use lib.ListN.{length, drop};
@@ -70,4 +71,21 @@ pub fn put_decimal(out: &mut [u8], at: usize, n: u32) -> usize
     let digits = ten_digits(n);
     let start = leading_zeros(&digits);
     put(out, at, &digits[start..])
+}
+
+// Puts a number in decimal, and what follows it.
+pub fn put_decimal_then(out: &mut [u8], at: usize, n: u32, after: &[u8]) -> usize
+    ensures { λ r. ⌜ Text.Put (Text.decimal n ++ now (after .entry)) at (now (out .entry)) r (now (out .exit)) ⌝ }
+{
+    let after_at = put_decimal(out, at, n);
+    put(out, after_at, after)
+}
+
+// Puts three texts one after the other.
+pub fn put_three<'a>(out: &mut [u8], at: usize, a: &'a [u8], b: &'a [u8], c: &'a [u8]) -> usize
+    ensures { λ r. ⌜ Text.Put (now (a .entry) ++ now (b .entry) ++ now (c .entry)) at (now (out .entry)) r (now (out .exit)) ⌝ }
+{
+    let b_at = put(out, at, a);
+    let c_at = put(out, b_at, b);
+    put(out, c_at, c)
 }

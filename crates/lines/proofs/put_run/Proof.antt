@@ -1,10 +1,10 @@
--- `record::lines::put_run` meets its contract. Assumes nothing.
+-- `lines::put_run` meets its contract. Assumes nothing.
 use Rattle.text.proofs.Puts.{put-put}
-use Rattle.record.specs.Lists.{runLine}
+use Rattle.lines.specs.Lines.{runLine}
 use native.Mathlib.Omega.{arith}
 use borrow.Author.Needs.{needs}
-use Rattle.record.proofs.lines.put_run.Statement.{statement}
-use Rattle.record.proofs.lines.put_run.Tie as tie
+use Rattle.lines.proofs.put_run.Statement.{statement}
+use Rattle.lines.proofs.put_run.Tie as tie
 
 same-length : tie.Need-same-length
 same-length c = search needs

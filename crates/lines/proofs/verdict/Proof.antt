@@ -1,7 +1,7 @@
--- `record::lines::verdict` meets its contract. Assumes nothing.
+-- `lines::verdict` meets its contract. Assumes nothing.
 use mathlib.Core.Path.{refl}
-use Rattle.record.proofs.lines.verdict.Statement.{statement}
-use Rattle.record.proofs.lines.verdict.Tie as tie
+use Rattle.lines.proofs.verdict.Statement.{statement}
+use Rattle.lines.proofs.verdict.Tie as tie
 
 returns : tie.Need-returns
 returns c = rw (c .if1 .taken) refl

@@ -1,10 +1,10 @@
--- `record::lines::letter` meets its contract. Assumes nothing.
-use Rattle.record.specs.Lists.{letter}
+-- `lines::letter` meets its contract. Assumes nothing.
+use Rattle.lines.specs.Lines.{letter}
 use borrow.Author.Tests.{not-true, not-false}
 use mathlib.Core.Path.{refl}
 use borrow.Author.Needs.{needs}
-use Rattle.record.proofs.lines.letter.Statement.{statement}
-use Rattle.record.proofs.lines.letter.Tie as tie
+use Rattle.lines.proofs.letter.Statement.{statement}
+use Rattle.lines.proofs.letter.Tie as tie
 
 returns : tie.Need-returns
 unfolding letter
