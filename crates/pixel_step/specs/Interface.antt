@@ -1,14 +1,12 @@
 -- What each call of the C interface answers, and what the memory that it may write holds afterwards: the result where nothing is refused, and what it held before otherwise.
-use Prim.Native.Nat.{ℕ, _+_, _*_}
+use Prim.Native.Nat.{ℕ}
 use mathlib.Core.Path.{_≡_}
 use mathlib.Core.Bool.{Bool, _&&_, cond}
 use mathlib.Core.List.{List, [], _∷_}
 use lib.Dec.{eqb, leb}
 use lib.ListN.{length}
 use lib.Ieee.{Float}
-use Rattle.number.specs.Vectors.{_!_}
-use Rattle.refusal.specs.Rows as Rows
-use Rattle.refusal.specs.Refused.{of, none, isNone}
+use Rattle.refusal.specs.Refused.{none}
 use Rattle.refusal.specs.declared.Refusal.{Refusal}
 use Rattle.projection.specs.Projection as Projection
 use Rattle.point_block.specs.Damping as Damping
@@ -25,17 +23,8 @@ use Rattle.schur.specs.PointStep as PointStep
 use Rattle.schur.specs.declared.system.ReducedSystem.{ReducedSystem}
 use Rattle.optimizer.specs.Problem.{Problem}
 use Rattle.optimizer.specs.Step as Step
-use Rattle.pixel_step.specs.Flat.{camera, rig, correspondence, block, blockNumbers, system, systemNumbers, systemCounts, flag, stepNumbers, stepCount}
-
--- a refusal as one number
-unfoldable pub code : Refusal → ℕ
-code r = r .number + 256 * r .view + 65536 * r .index
-
-abbrev pub lengthsCode : ℕ
-lengthsCode = code (of Rows.lengths)
-
-unfoldable pub stored : {A : Type 0} → Refusal → List A → List A → List A
-stored r values out = cond (isNone r) values out
+use Rattle.flat.specs.Flat.{camera, rig, correspondence, block, blockNumbers, system, systemNumbers, systemCounts, flag, stepNumbers, stepCount, projectionNumbers, factorNumbers, pointStepNumbers}
+use Rattle.flat.specs.Answers.{code, lengthsCode, stored}
 
 -- the number that comes back, and `out`
 pub record Answer (A : Type 0) : Type 0 where
@@ -57,9 +46,7 @@ long l n = eqb (length l) n
 unfoldable pub pixelProjection : List Float → List Float → List Float → List Float → Answer Float
 pixelProjection c observation point out =
     let p = Projection.pixelProjection (camera c) observation point in
-    let r = p .residual in
-    let j = p .jacobian in
-    answer (long c 5 && long observation 2 && long point 3 && long out 8) (p .refusal) (r ! 0 ∷ r ! 1 ∷ j ! 0 ∷ j ! 1 ∷ j ! 2 ∷ j ! 3 ∷ j ! 4 ∷ j ! 5 ∷ []) out
+    answer (long c 5 && long observation 2 && long point 3 && long out 8) (p .refusal) (projectionNumbers p) out
 
 unfoldable pub dampingDiagonal : List Float → List Float → Answer Float
 dampingDiagonal matrix out =
@@ -84,8 +71,7 @@ factor matrix damping out =
 unfoldable pub loneFactor : List Float → Float → List Float → Answer Float
 loneFactor matrix damping out =
     let f = Lone.loneFactor matrix damping in
-    let i = f .inverse in
-    answer (long matrix 9 && long out 7) (f .refusal) (i ! 0 ∷ i ! 1 ∷ i ! 2 ∷ i ! 3 ∷ i ! 4 ∷ i ! 5 ∷ f .rcond ∷ []) out
+    answer (long matrix 9 && long out 7) (f .refusal) (factorNumbers f) out
 
 unfoldable pub factorSolve : List Float → List Float → List Float → Answer Float
 factorSolve inverse x out = answer (long inverse 6 && long x 3 && long out 3) none (Factor.solve inverse x) out
@@ -106,7 +92,7 @@ linearizePoint x d out =
 unfoldable pub pointStep : List Float → Float → List Float → List Float → Answer Float
 pointStep b damping poseStep out =
     let p = PointStep.pointStep (block b) damping poseStep in
-    answer (long b 59 && long poseStep 5 && long out 4) (p .refusal) (p .step ! 0 ∷ p .step ! 1 ∷ p .step ! 2 ∷ p .«damping_norm» ∷ []) out
+    answer (long b 59 && long poseStep 5 && long out 4) (p .refusal) (pointStepNumbers p) out
 
 -- ---- calls on a system: 45 numbers, and the weak count, the block count and the flag
 

@@ -2,10 +2,9 @@
 ghost use mathlib.Core.Path.{_≡_};
 ghost use lib.ListN.{length};
 ghost use Rattle.optimizer.specs.Problem as Problem;
-ghost use Rattle.pixel_step.specs.Flat as Flat;
+ghost use Rattle.flat.specs.Answers as Answers;
+ghost use Rattle.flat.specs.Flat as Flat;
 ghost use Rattle.pixel_step.specs.Interface as Interface;
-use crate::flat;
-use crate::memory;
 use optimizer::StepResult;
 use refusal::Refusal;
 
@@ -27,7 +26,7 @@ pub extern "C" fn pixel_step_step<'a>(
         (now (rig .entry)) (now (room .entry)) (now (out .entry)) (now (weak .entry))) ⌝ }
 {
     if !((rig.len() == 29) & (out.len() == 12) & (weak.len() == 1)) {
-        return memory::lengths();
+        return flat::lengths();
     }
     let r = flat::rig(rig);
     let done = optimizer::step(points, view1, view2, inverse_deviations, r, damping, room);
@@ -40,25 +39,25 @@ pub extern "C" fn pixel_step_limit_pose_step(x: &[f64], out: &mut [f64]) -> u64
     ensures { λ r. ⌜ Interface.Answered r (now (out .exit)) (Interface.limitPoseStep (now (x .entry)) (now (out .entry))) ⌝ }
 {
     if !((x.len() == 5) & (out.len() == 5)) {
-        return memory::lengths();
+        return flat::lengths();
     }
-    let values = optimizer::limit_pose_step(memory::vector5(x));
-    memory::answer(Refusal::none(), &values, out)
+    let values = optimizer::limit_pose_step(flat::vector5(x, 0));
+    flat::answer(Refusal::none(), &values, out)
 }
 
 // Stores numbers and weak count where nothing was refused, and answers the refusal's code.
 fn answer(done: StepResult, out: &mut [f64], weak: &mut [u16]) -> u64
     requires { ⌜ (length (now out) ≡ 12) × (length (now weak) ≡ 1) ⌝ }
-    ensures { λ r. ⌜ (r ≡ Interface.code (done .refusal))
-        × (now (out .exit) ≡ Interface.stored (done .refusal) (Flat.stepNumbers done) (now (out .entry)))
-        × (now (weak .exit) ≡ Interface.stored (done .refusal) (Flat.stepCount done) (now (weak .entry))) ⌝ }
+    ensures { λ r. ⌜ (r ≡ Answers.code (done .refusal))
+        × (now (out .exit) ≡ Answers.stored (done .refusal) (Flat.stepNumbers done) (now (out .entry)))
+        × (now (weak .exit) ≡ Answers.stored (done .refusal) (Flat.stepCount done) (now (weak .entry))) ⌝ }
 {
     let refusal = done.refusal;
     if !refusal.is_none() {
-        return memory::code(refusal);
+        return flat::code(refusal);
     }
     let values = flat::step_numbers(done);
-    memory::put(&values, 0, out);
+    flat::store(&values, out);
     weak[0] = done.weak_point_count;
-    memory::code(refusal)
+    flat::code(refusal)
 }

@@ -1,10 +1,9 @@
 // The reduced system: 45 numbers, and beside them the weak count, the block count and the flag.
 ghost use mathlib.Core.Path.{_≡_};
 ghost use lib.ListN.{length};
-ghost use Rattle.pixel_step.specs.Flat as Flat;
+ghost use Rattle.flat.specs.Answers as Answers;
+ghost use Rattle.flat.specs.Flat as Flat;
 ghost use Rattle.pixel_step.specs.Interface as Interface;
-use crate::flat;
-use crate::memory;
 use refusal::Refusal;
 use schur::ReducedSystem;
 
@@ -14,7 +13,7 @@ pub extern "C" fn pixel_step_system_new(system: &mut [f64], counts: &mut [u16]) 
         (Interface.newSystem (now (system .entry)) (now (counts .entry))) ⌝ }
 {
     if !((system.len() == 45) & (counts.len() == 3)) {
-        return memory::lengths();
+        return flat::lengths();
     }
     answer(Refusal::none(), ReducedSystem::new(), system, counts)
 }
@@ -30,7 +29,7 @@ pub extern "C" fn pixel_step_system_add(
         (Interface.add (now (system .entry)) (now (counts .entry)) (now (block .entry)) damping) ⌝ }
 {
     if !((system.len() == 45) & (counts.len() == 3) & (block.len() == 59)) {
-        return memory::lengths();
+        return flat::lengths();
     }
     let s = flat::system(system, counts);
     let added = s.add(flat::block(block), damping);
@@ -49,7 +48,7 @@ pub extern "C" fn pixel_step_system_finish_damping(
         (Interface.finishDamping (now (system .entry)) (now (counts .entry)) damping) ⌝ }
 {
     if !((system.len() == 45) & (counts.len() == 3)) {
-        return memory::lengths();
+        return flat::lengths();
     }
     let s = flat::system(system, counts);
     let finished = s.finish_damping(damping);
@@ -65,11 +64,11 @@ pub extern "C" fn pixel_step_system_is_valid(system: &[f64], counts: &[u16], out
         (Interface.isValid (now (system .entry)) (now (counts .entry)) (now (out .entry))) ⌝ }
 {
     if !((system.len() == 45) & (counts.len() == 3) & (out.len() == 1)) {
-        return memory::lengths();
+        return flat::lengths();
     }
     let s = flat::system(system, counts);
     out[0] = flag(s.is_valid());
-    memory::code(Refusal::none())
+    flat::code(Refusal::none())
 }
 
 // out: 1
@@ -83,11 +82,11 @@ pub extern "C" fn pixel_step_system_scaled_gradient_inf_norm(
         (Interface.gradientInfNorm (now (system .entry)) (now (counts .entry)) (now (out .entry))) ⌝ }
 {
     if !((system.len() == 45) & (counts.len() == 3) & (out.len() == 1)) {
-        return memory::lengths();
+        return flat::lengths();
     }
     let s = flat::system(system, counts);
     let values = [s.scaled_gradient_inf_norm()];
-    memory::answer(Refusal::none(), &values, out)
+    flat::answer(Refusal::none(), &values, out)
 }
 
 // step: 5; out: 1
@@ -104,31 +103,31 @@ pub extern "C" fn pixel_step_system_predicted_reduction(
         (Interface.predictedReduction (now (system .entry)) (now (counts .entry)) (now (step .entry)) damping «point_damping_norm» (now (out .entry))) ⌝ }
 {
     if !((system.len() == 45) & (counts.len() == 3) & (step.len() == 5) & (out.len() == 1)) {
-        return memory::lengths();
+        return flat::lengths();
     }
     let s = flat::system(system, counts);
-    let p = s.predicted_reduction(memory::vector5(step), damping, point_damping_norm);
+    let p = s.predicted_reduction(flat::vector5(step, 0), damping, point_damping_norm);
     let refusal = p.refusal;
     let values = [p.reduction];
-    memory::answer(refusal, &values, out)
+    flat::answer(refusal, &values, out)
 }
 
 // Stores the system where nothing was refused, and answers the refusal's code.
 fn answer(refusal: Refusal, next: ReducedSystem, system: &mut [f64], counts: &mut [u16]) -> u64
     requires { ⌜ (length (now system) ≡ 45) × (length (now counts) ≡ 3) ⌝ }
-    ensures { λ r. ⌜ (r ≡ Interface.code refusal)
-        × (now (system .exit) ≡ Interface.stored refusal (Flat.systemNumbers next) (now (system .entry)))
-        × (now (counts .exit) ≡ Interface.stored refusal (Flat.systemCounts next) (now (counts .entry))) ⌝ }
+    ensures { λ r. ⌜ (r ≡ Answers.code refusal)
+        × (now (system .exit) ≡ Answers.stored refusal (Flat.systemNumbers next) (now (system .entry)))
+        × (now (counts .exit) ≡ Answers.stored refusal (Flat.systemCounts next) (now (counts .entry))) ⌝ }
 {
     if !refusal.is_none() {
-        return memory::code(refusal);
+        return flat::code(refusal);
     }
     let values = flat::system_numbers(next);
-    memory::put(&values, 0, system);
+    flat::store(&values, system);
     counts[0] = next.weak_point_count;
     counts[1] = next.block_count;
     counts[2] = flag(next.valid);
-    memory::code(refusal)
+    flat::code(refusal)
 }
 
 fn flag(b: bool) -> u16

@@ -1,13 +1,14 @@
 -- `pixel_step::steps::answer` meets its contract. Assumes nothing.
 use mathlib.Core.Path.{_≡_, sym, _∙_}
 use lib.ListN.{length}
-use Rattle.pixel_step.proofs.Laws.{stored-none, stored-some, put-all, one-set}
+use Rattle.flat.proofs.Laws.{stored-none, stored-some}
+use Rattle.pixel_step.proofs.Laws.{one-set}
 use borrow.Author.Needs.{needs}
 use Rattle.pixel_step.proofs.steps.answer.Statement.{statement}
 use Rattle.pixel_step.proofs.steps.answer.Tie as tie
 
 -- the array has its length
-sized : (c : tie.After-put-arg) → length (c .before .before .step-numbers .result) ≡ 12
+sized : (c : tie.After-store-arg) → length (c .before .before .step-numbers .result) ≡ 12
 sized c = search needs
 
 returns : tie.Need-returns
@@ -22,7 +23,7 @@ returns-2 c =
     let n = c .before .before .before .before .before .before .before .before .is-none .ensures in
     let t = c .before .before .before .before .before .before .before .if1 .left in (
       c .code2 .ensures,
-      stored-some _ _ _ _ n _ t (c .before .before .before .put .ensures ∙ put-all _ _ (sized (c .before .before .before .before) ∙ sym (start .pre .0)) ∙ c .before .before .before .before .before .before .step-numbers .ensures),
+      stored-some _ _ _ _ n _ t (c .before .before .before .store .ensures (sized (c .before .before .before .before) ∙ sym (start .pre .0)) ∙ c .before .before .before .before .before .before .step-numbers .ensures),
       stored-some _ _ _ _ n _ t (one-set (start .args .weak .now) _ (start .pre .1)),
     )
 

@@ -3,6 +3,7 @@ use mathlib.Core.Path.{_≡_, sym, ap, _∙_}
 use lib.ListN.{length}
 use Rattle.optimizer.specs.Step as Step
 use Rattle.pixel_step.specs.Interface.{limitPoseStep}
+use Rattle.flat.proofs.Laws.{whole}
 use Rattle.pixel_step.proofs.Laws.{too-short, answers, two-fit}
 use borrow.Author.Needs.{needs}
 use Rattle.pixel_step.proofs.steps.pixel_step_limit_pose_step.Statement.{statement}
@@ -19,16 +20,11 @@ returns : tie.Need-returns
 unfolding limitPoseStep
 returns c = too-short _ _ _ _ _ (c .before .if1 .taken) (c .lengths .ensures)
 
-vector5-requires : tie.Need-vector5-requires
-vector5-requires c κs = fit c .0
-
-answer-requires : tie.Need-answer-requires
-answer-requires c κs = sized c ∙ sym (fit (c .before .before .before .before .before) .1)
-
 returns-2 : tie.Need-returns-2
 unfolding limitPoseStep
 returns-2 c =
-    answers _ _ _ _ _ _ _ _ (c .before .before .before .before .before .before .before .before .if1 .left) (c .before .before .before .before .before .none .ensures) (c .before .before .before .before .before .before .limit-pose-step .ensures ∙ ap Step.limitPoseStep (c .before .before .before .before .before .before .before .vector5 .ensures)) (c .before .before .answer .ensures)
+    let f = fit (c .before .before .before .before .before .before .before .before) in
+    answers _ _ _ _ _ _ _ _ (c .before .before .before .before .before .before .before .before .if1 .left) (c .before .before .before .before .before .none .ensures) (c .before .before .before .before .before .before .limit-pose-step .ensures ∙ ap Step.limitPoseStep (whole _ 5 _ (f .0) (c .before .before .before .before .before .before .before .vector5 .ensures))) (sized (c .before .before .before) ∙ sym (f .1)) (c .before .before .answer .ensures)
 
 pub pixel-step-limit-pose-step-spec : {M : Type 1} → statement M
 pixel-step-limit-pose-step-spec =
@@ -36,10 +32,10 @@ pixel-step-limit-pose-step-spec =
     (tie.spec
     (λ c κs. search needs)
     returns
-    vector5-requires
+    (λ c κs. search needs)
     (λ c κs. search needs)
     (λ c κs. search needs)
     (λ c. search needs)
-    answer-requires
+    (λ c κs. search needs)
     (λ c. search needs)
     returns-2)

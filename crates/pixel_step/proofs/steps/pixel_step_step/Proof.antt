@@ -14,9 +14,6 @@ fit c = three-fit (length (c .before .before .before .before .before .before .be
 returns : tie.Need-returns
 returns c = too-short-step _ _ _ _ _ _ (c .before .if1 .taken) (c .lengths .ensures)
 
-rig-requires : tie.Need-rig-requires
-rig-requires c κs = fit c .0
-
 answer-requires : tie.Need-answer-requires
 answer-requires c κs =
     let f = fit (c .before .before .before .before .before .before .before) in
@@ -24,8 +21,9 @@ answer-requires c κs =
 
 returns-2 : tie.Need-returns-2
 returns-2 c =
+    let f = fit (c .before .before .before .before .before .before .before .before .before .before .before .before) in
     let a = c .before .before .before .before .before .before .before .before .before .before .before .before .before .before .before .before .before .before .before .before .before .args in
-    steps (λ (x : Rig). problem (a .points .now) (a .view1 .now) (a .view2 .now) (a .inverse-deviations .now) x (a .damping)) (c .before .before .before .before .before .before .before .before .before .before .before .rig .result) (a .rig .now) _ (a .room .now) _ _ _ _ _ _ (c .before .before .before .before .before .before .before .before .before .before .before .before .if1 .left) (c .before .before .before .before .before .before .before .before .before .before .before .rig .ensures) (c .before .before .before .before .before .before .before .before .before .step .ensures) (c .before .before .before .before .answer .ensures)
+    steps (λ (x : Rig). problem (a .points .now) (a .view1 .now) (a .view2 .now) (a .inverse-deviations .now) x (a .damping)) (c .before .before .before .before .before .before .before .before .before .before .before .rig .result) (a .rig .now) _ (a .room .now) _ _ _ _ _ _ (c .before .before .before .before .before .before .before .before .before .before .before .before .if1 .left) (c .before .before .before .before .before .before .before .before .before .before .before .rig .ensures (f .0)) (c .before .before .before .before .before .before .before .before .before .step .ensures) (c .before .before .before .before .answer .ensures)
 
 pub pixel-step-step-spec : {M : Type 1} → statement M
 pixel-step-step-spec =
@@ -33,7 +31,7 @@ pixel-step-step-spec =
     (tie.spec
     (λ c κs. search needs)
     returns
-    rig-requires
+    (λ c κs. search needs)
     (λ c κs. search needs)
     answer-requires
     (λ c. search needs)

@@ -5,14 +5,15 @@ use Prim.Native.Nat.{ℕ}
 use native.Mathlib.Omega.{arith}
 use lib.ListN.{length, set}
 use lib.Seq.{lt-length-set}
-use Rattle.pixel_step.specs.Flat.{systemCounts}
-use Rattle.pixel_step.proofs.Laws.{stored-none, stored-some, put-all, three-set}
+use Rattle.flat.specs.Flat.{systemCounts}
+use Rattle.flat.proofs.Laws.{stored-none, stored-some}
+use Rattle.pixel_step.proofs.Laws.{three-set}
 use borrow.Author.Needs.{needs}
 use Rattle.pixel_step.proofs.systems.answer.Statement.{statement}
 use Rattle.pixel_step.proofs.systems.answer.Tie as tie
 
 -- the array has its length
-sized : (c : tie.After-put-arg) → length (c .before .before .system-numbers .result) ≡ 45
+sized : (c : tie.After-store-arg) → length (c .before .before .system-numbers .result) ≡ 45
 sized c = search needs
 
 returns : tie.Need-returns
@@ -20,9 +21,6 @@ returns c =
     let n = c .before .before .is-none .ensures in
     let t = c .before .if1 .taken in
     (c .code .ensures, stored-none _ _ _ _ n t, stored-none _ _ _ _ n t)
-
-put-requires : tie.Need-put-requires
-put-requires c κs = omega (arith, sized c, c .before .before .before .before .before .before .before .pre .0)
 
 slice-write-counts : tie.Need-slice-write-counts
 slice-write-counts c = omega (arith, c .before .before .before .before .before .before .before .before .before .before .pre .1)
@@ -47,7 +45,7 @@ returns-2 c =
     let t = c .before .before .before .before .before .before .before .before .if1 .left in
     let p = c .before .before .before .before in (
       c .code2 .ensures,
-      stored-some _ _ _ _ n _ t (p .put .ensures ∙ put-all _ _ (sized (p .before) ∙ sym (h .0)) ∙ c .before .before .before .before .before .before .before .system-numbers .ensures),
+      stored-some _ _ _ _ n _ t (p .store .ensures (sized (p .before) ∙ sym (h .0)) ∙ c .before .before .before .before .before .before .before .system-numbers .ensures),
       stored-some _ _ _ _ n _ t (three-set (start .args .counts .now) _ _ _ (h .1) ∙ ap (λ (k : ℕ). s .«weak_point_count» ∷ s .«block_count» ∷ k ∷ []) (c .before .flag .ensures)),
     )
 
@@ -60,7 +58,7 @@ answer-spec =
     returns
     (λ c κs. search needs)
     (λ c. search needs)
-    put-requires
+    (λ c κs. search needs)
     slice-write-counts
     slice-write-counts-2
     (λ c κs. search needs)

@@ -5,7 +5,7 @@ use Rattle.schur.specs.System as System
 use Rattle.linearization.specs.declared.linearize.LocalLinearization.{LocalLinearization}
 use Rattle.schur.specs.declared.system.Added.{Added}
 use Rattle.schur.specs.declared.system.ReducedSystem.{ReducedSystem}
-use Rattle.pixel_step.specs.Flat.{system}
+use Rattle.flat.specs.Flat.{system}
 use Rattle.pixel_step.specs.Interface.{add}
 use Rattle.pixel_step.proofs.Laws.{too-short-system, changes, three-fit}
 use borrow.Author.Needs.{needs}
@@ -19,14 +19,6 @@ returns : tie.Need-returns
 unfolding add
 returns c = too-short-system _ _ _ _ _ _ (c .before .if1 .taken) (c .lengths .ensures)
 
-system-requires : tie.Need-system-requires
-system-requires c κs =
-    let f = fit (c .before .before) in
-    (f .0, f .1)
-
-block-requires : tie.Need-block-requires
-block-requires c κs = fit (c .before .before .before) .2
-
 answer-requires : tie.Need-answer-requires
 answer-requires c κs =
     let f = fit (c .before .before .before .before .before .before .before .before .before) in
@@ -35,11 +27,12 @@ answer-requires c κs =
 returns-2 : tie.Need-returns-2
 unfolding add
 returns-2 c =
+    let f = fit (c .before .before .before .before .before .before .before .before .before .before .before .before .before .before) in
     let start = c .before .before .before .before .before .before .before .before .before .before .before .before .before .before .before .before .before .before in
     let e =
     c .before .before .before .before .before .before .before .before .before .add .ensures
-    ∙ ap (λ (s : ReducedSystem). System.add s (c .before .before .before .before .before .before .before .before .before .before .block .result) (start .args .damping)) (c .before .before .before .before .before .before .before .before .before .before .before .system .ensures)
-    ∙ ap (λ (b : LocalLinearization). System.add (system (start .args .system .now) (start .args .counts .now)) b (start .args .damping)) (c .before .before .before .before .before .before .before .before .before .before .block .ensures) in
+    ∙ ap (λ (s : ReducedSystem). System.add s (c .before .before .before .before .before .before .before .before .before .before .block .result) (start .args .damping)) (c .before .before .before .before .before .before .before .before .before .before .before .system .ensures (f .0) (f .1))
+    ∙ ap (λ (b : LocalLinearization). System.add (system (start .args .system .now) (start .args .counts .now)) b (start .args .damping)) (c .before .before .before .before .before .before .before .before .before .before .block .ensures (f .2)) in
     changes _ _ _ _ _ _ _ _ _ _ (c .before .before .before .before .before .before .before .before .before .before .before .before .before .before .if1 .left) (ap (λ (a : Added). a .refusal) e) (ap (λ (a : Added). a .system) e) (c .before .before .before .before .answer .ensures)
 
 pub pixel-step-system-add-spec : {M : Type 1} → statement M
@@ -48,8 +41,8 @@ pixel-step-system-add-spec =
     (tie.spec
     (λ c κs. search needs)
     returns
-    system-requires
-    block-requires
+    (λ c κs. search needs)
+    (λ c κs. search needs)
     (λ c κs. search needs)
     answer-requires
     (λ c. search needs)

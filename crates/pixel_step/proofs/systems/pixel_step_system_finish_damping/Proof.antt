@@ -17,11 +17,6 @@ returns : tie.Need-returns
 unfolding finishDamping
 returns c = too-short-system _ _ _ _ _ _ (c .before .if1 .taken) (c .lengths .ensures)
 
-system-requires : tie.Need-system-requires
-system-requires c κs =
-    let f = fit (c .before .before) in
-    (f .0, f .1)
-
 answer-requires : tie.Need-answer-requires
 answer-requires c κs =
     let f = fit (c .before .before .before .before .before .before .before .before) in
@@ -30,9 +25,10 @@ answer-requires c κs =
 returns-2 : tie.Need-returns-2
 unfolding finishDamping
 returns-2 c =
+    let f = fit (c .before .before .before .before .before .before .before .before .before .before .before .before .before) in
     let e =
     c .before .before .before .before .before .before .before .before .before .finish-damping .ensures
-    ∙ ap (λ (s : ReducedSystem). Model.finishDamping s (c .before .before .before .before .before .before .before .before .before .before .before .before .before .before .before .before .args .damping)) (c .before .before .before .before .before .before .before .before .before .before .system .ensures) in
+    ∙ ap (λ (s : ReducedSystem). Model.finishDamping s (c .before .before .before .before .before .before .before .before .before .before .before .before .before .before .before .before .args .damping)) (c .before .before .before .before .before .before .before .before .before .before .system .ensures (f .0) (f .1)) in
     changes _ _ _ _ _ _ _ _ _ _ (c .before .before .before .before .before .before .before .before .before .before .before .before .before .if1 .left) (ap (λ (a : Added). a .refusal) e) (ap (λ (a : Added). a .system) e) (c .before .before .before .before .answer .ensures)
 
 pub pixel-step-system-finish-damping-spec : {M : Type 1} → statement M
@@ -41,7 +37,7 @@ pixel-step-system-finish-damping-spec =
     (tie.spec
     (λ c κs. search needs)
     returns
-    system-requires
+    (λ c κs. search needs)
     (λ c κs. search needs)
     answer-requires
     (λ c. search needs)

@@ -7,8 +7,9 @@ use native.Mathlib.Omega.{arith}
 use lib.ListN.{length}
 use Rattle.schur.specs.Model as Model
 use Rattle.schur.specs.declared.system.ReducedSystem.{ReducedSystem}
-use Rattle.pixel_step.specs.Interface.{isValid, code}
-use Rattle.pixel_step.specs.Flat.{flag}
+use Rattle.flat.specs.Answers.{code}
+use Rattle.pixel_step.specs.Interface.{isValid}
+use Rattle.flat.specs.Flat.{flag}
 use Rattle.pixel_step.proofs.Laws.{too-short, answers-none, one-set, three-fit}
 use borrow.Author.Needs.{needs}
 use Rattle.pixel_step.proofs.systems.pixel_step_system_is_valid.Statement.{statement}
@@ -21,21 +22,17 @@ returns : tie.Need-returns
 unfolding isValid
 returns c = too-short _ _ _ _ _ (c .before .if1 .taken) (c .lengths .ensures)
 
-system-requires : tie.Need-system-requires
-system-requires c κs =
-    let f = fit c in
-    (f .0, f .1)
-
 slice-write-out : tie.Need-slice-write-out
 slice-write-out c = omega (arith, fit (c .before .before .before) .2)
 
 returns-2 : tie.Need-returns-2
 unfolding isValid
 returns-2 c =
+    let f = fit (c .before .before .before .before .before) in
     let e =
     c .before .before .flag .ensures
     ∙ ap (λ (b : Bool). flag b) (c .before .before .before .is-valid .ensures)
-    ∙ ap (λ (s : ReducedSystem). flag (Model.isValid s)) (c .before .before .before .before .system .ensures) in
+    ∙ ap (λ (s : ReducedSystem). flag (Model.isValid s)) (c .before .before .before .before .system .ensures (f .0) (f .1)) in
     answers-none _ _ _ _ _ (c .before .before .before .before .before .if1 .left) (c .code .ensures ∙ ap code (c .before .none .ensures)) (one-set (c .before .before .before .before .before .before .before .before .before .args .out .now) _ (fit (c .before .before .before .before .before) .2) ∙ ap (λ (n : ℕ). n ∷ []) e)
 
 pub pixel-step-system-is-valid-spec : {M : Type 1} → statement M
@@ -44,7 +41,7 @@ pixel-step-system-is-valid-spec =
     (tie.spec
     (λ c κs. search needs)
     returns
-    system-requires
+    (λ c κs. search needs)
     (λ c κs. search needs)
     (λ c κs. search needs)
     slice-write-out

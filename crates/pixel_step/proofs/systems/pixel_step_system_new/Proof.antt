@@ -22,6 +22,7 @@ answer-requires c κs =
 returns-2 : tie.Need-returns-2
 unfolding newSystem
 returns-2 c =
+    let f = fit (c .before .before .before .before .before .before .before .before .before) in
     changes _ _ _ _ _ _ _ _ _ _ (c .before .before .before .before .before .before .before .before .before .if1 .left) (c .before .before .before .before .before .before .before .before .none .ensures) (c .before .before .before .before .before .before .before .new .ensures) (c .before .before .before .before .answer .ensures)
 
 pub pixel-step-system-new-spec : {M : Type 1} → statement M

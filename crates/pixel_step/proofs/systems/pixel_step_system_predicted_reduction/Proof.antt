@@ -6,8 +6,9 @@ use lib.Ieee.{Float}
 use Rattle.schur.specs.Model as Model
 use Rattle.schur.specs.declared.system.ReducedSystem.{ReducedSystem}
 use Rattle.schur.specs.declared.system.Predicted.{Predicted}
-use Rattle.pixel_step.specs.Flat.{system}
+use Rattle.flat.specs.Flat.{system}
 use Rattle.pixel_step.specs.Interface.{predictedReduction}
+use Rattle.flat.proofs.Laws.{whole}
 use Rattle.pixel_step.proofs.Laws.{too-short, answers, four-fit}
 use borrow.Author.Needs.{needs}
 use Rattle.pixel_step.proofs.systems.pixel_step_system_predicted_reduction.Statement.{statement}
@@ -20,26 +21,16 @@ returns : tie.Need-returns
 unfolding predictedReduction
 returns c = too-short _ _ _ _ _ (c .before .if1 .taken) (c .lengths .ensures)
 
-system-requires : tie.Need-system-requires
-system-requires c κs =
-    let f = fit c in
-    (f .0, f .1)
-
-vector5-requires : tie.Need-vector5-requires
-vector5-requires c κs = fit (c .before) .2
-
-answer-requires : tie.Need-answer-requires
-answer-requires c κs = sym (fit (c .before .before .before .before .before .before) .3)
-
 returns-2 : tie.Need-returns-2
 unfolding predictedReduction
 returns-2 c =
+    let f = fit (c .before .before .before .before .before .before .before .before .before) in
     let start = c .before .before .before .before .before .before .before .before .before .before .before .before .before .before in
     let e =
     c .before .before .before .before .before .before .predicted-reduction .ensures
-    ∙ ap (λ (s : ReducedSystem). Model.predictedReduction s (c .before .before .before .before .before .before .before .vector5 .result) (start .args .damping) (start .args .point-damping-norm)) (c .before .before .before .before .before .before .before .before .system .ensures)
-    ∙ ap (λ (l : List Float). Model.predictedReduction (system (start .args .system .now) (start .args .counts .now)) l (start .args .damping) (start .args .point-damping-norm)) (c .before .before .before .before .before .before .before .vector5 .ensures) in
-    answers _ _ _ _ _ _ _ _ (c .before .before .before .before .before .before .before .before .before .if1 .left) (ap (λ (p : Predicted). p .refusal) e) (ap (λ (p : Predicted). p .reduction ∷ []) e) (c .before .before .answer .ensures)
+    ∙ ap (λ (s : ReducedSystem). Model.predictedReduction s (c .before .before .before .before .before .before .before .vector5 .result) (start .args .damping) (start .args .point-damping-norm)) (c .before .before .before .before .before .before .before .before .system .ensures (f .0) (f .1))
+    ∙ ap (λ (l : List Float). Model.predictedReduction (system (start .args .system .now) (start .args .counts .now)) l (start .args .damping) (start .args .point-damping-norm)) (whole _ 5 _ (f .2) (c .before .before .before .before .before .before .before .vector5 .ensures)) in
+    answers _ _ _ _ _ _ _ _ (c .before .before .before .before .before .before .before .before .before .if1 .left) (ap (λ (p : Predicted). p .refusal) e) (ap (λ (p : Predicted). p .reduction ∷ []) e) (sym (f .3)) (c .before .before .answer .ensures)
 
 pub pixel-step-system-predicted-reduction-spec : {M : Type 1} → statement M
 pixel-step-system-predicted-reduction-spec =
@@ -47,10 +38,10 @@ pixel-step-system-predicted-reduction-spec =
     (tie.spec
     (λ c κs. search needs)
     returns
-    system-requires
-    vector5-requires
+    (λ c κs. search needs)
+    (λ c κs. search needs)
     (λ c κs. search needs)
     (λ c. search needs)
-    answer-requires
+    (λ c κs. search needs)
     (λ c. search needs)
     returns-2)

@@ -18,21 +18,14 @@ returns : tie.Need-returns
 unfolding gradientInfNorm
 returns c = too-short _ _ _ _ _ (c .before .if1 .taken) (c .lengths .ensures)
 
-system-requires : tie.Need-system-requires
-system-requires c κs =
-    let f = fit c in
-    (f .0, f .1)
-
-answer-requires : tie.Need-answer-requires
-answer-requires c κs = sym (fit (c .before .before .before .before .before) .2)
-
 returns-2 : tie.Need-returns-2
 unfolding gradientInfNorm
 returns-2 c =
+    let f = fit (c .before .before .before .before .before .before .before .before) in
     let e =
     c .before .before .before .before .before .before .scaled-gradient-inf-norm .ensures
-    ∙ ap (λ (s : ReducedSystem). Model.gradientInfNorm s) (c .before .before .before .before .before .before .before .system .ensures) in
-    answers _ _ _ _ _ _ _ _ (c .before .before .before .before .before .before .before .before .if1 .left) (c .before .before .before .before .before .none .ensures) (ap (λ (x : Float). x ∷ []) e) (c .before .before .answer .ensures)
+    ∙ ap (λ (s : ReducedSystem). Model.gradientInfNorm s) (c .before .before .before .before .before .before .before .system .ensures (f .0) (f .1)) in
+    answers _ _ _ _ _ _ _ _ (c .before .before .before .before .before .before .before .before .if1 .left) (c .before .before .before .before .before .none .ensures) (ap (λ (x : Float). x ∷ []) e) (sym (f .2)) (c .before .before .answer .ensures)
 
 pub pixel-step-system-scaled-gradient-inf-norm-spec : {M : Type 1} → statement M
 pixel-step-system-scaled-gradient-inf-norm-spec =
@@ -40,10 +33,10 @@ pixel-step-system-scaled-gradient-inf-norm-spec =
     (tie.spec
     (λ c κs. search needs)
     returns
-    system-requires
+    (λ c κs. search needs)
     (λ c κs. search needs)
     (λ c κs. search needs)
     (λ c. search needs)
-    answer-requires
+    (λ c κs. search needs)
     (λ c. search needs)
     returns-2)
