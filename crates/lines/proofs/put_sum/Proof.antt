@@ -1,6 +1,5 @@
 -- `lines::put_sum` meets its contract. Assumes nothing.
 use mathlib.Core.Path.{refl}
-use mathlib.Core.List.{_∷_, [], _++_}
 use Rattle.text.proofs.Puts.{put-same, put-put, put-then}
 use Rattle.lines.specs.Lines.{sumLine}
 use borrow.Author.Needs.{needs}

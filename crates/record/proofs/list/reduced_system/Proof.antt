@@ -1,7 +1,6 @@
 -- `record::list::reduced_system` meets its contract. Assumes nothing.
 use mathlib.Core.Path.{sym, ap, _∙_}
 use Prim.Native.Nat.{ℕ, _*_, _≤_}
-use lib.ListN.{length}
 use lib.Seq.{length-take-le}
 use Rattle.record_form.proofs.Forms.{few-points}
 use Rattle.optimizer.specs.Step.{reduced}

@@ -1,5 +1,4 @@
 -- `record::run::rig_of` meets its contract. Assumes nothing.
-use Rattle.record.specs.Run.{rig}
 use Rattle.record.proofs.Runs.{rig-is}
 use borrow.Author.Needs.{needs}
 use Rattle.record.proofs.run.rig_of.Statement.{statement}
