@@ -33,7 +33,7 @@ pub fn answer(refusal: Refusal, values: &[f64], out: &mut [f64]) -> u64
     code(refusal)
 }
 
-// Stores as many values as `out` has; other than as many are not stored.
+// Stores the values where `out` has room for just as many.
 pub fn store(values: &[f64], out: &mut [f64])
     ensures { λ _. ⌜ (length (now (values .entry)) ≡ length (now (out .entry)) → now (out .exit) ≡ now (values .entry)) ⌝ }
 {

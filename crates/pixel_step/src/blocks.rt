@@ -1,4 +1,5 @@
 // The block of one point, and how the point moves. A block is 59 numbers.
+ghost use Rattle.flat.specs.Answers as Answers;
 ghost use Rattle.pixel_step.specs.Interface as Interface;
 
 // rig: 29; correspondence: point, view 1, view 2, inverse deviation, 8; out: a block
@@ -8,7 +9,7 @@ pub extern "C" fn pixel_step_linearize_point(
     correspondence: &[f64],
     out: &mut [f64],
 ) -> u64
-    ensures { λ r. ⌜ Interface.Answered r (now (out .exit))
+    ensures { λ r. ⌜ Answers.Answered r (now (out .exit))
         (Interface.linearizePoint (now (rig .entry)) (now (correspondence .entry)) (now (out .entry))) ⌝ }
 {
     if !((rig.len() == 29) & (correspondence.len() == 8) & (out.len() == 59)) {
@@ -37,7 +38,7 @@ pub extern "C" fn pixel_step_point_step_with_damping_norm(
     pose_step: &[f64],
     out: &mut [f64],
 ) -> u64
-    ensures { λ r. ⌜ Interface.Answered r (now (out .exit))
+    ensures { λ r. ⌜ Answers.Answered r (now (out .exit))
         (Interface.pointStep (now (block .entry)) damping (now («pose_step» .entry)) (now (out .entry))) ⌝ }
 {
     if !((block.len() == 59) & (pose_step.len() == 5) & (out.len() == 4)) {

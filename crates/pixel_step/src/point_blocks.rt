@@ -1,4 +1,5 @@
 // The 3 by 3 point block. A matrix is 9 numbers, row by row; an inverse is 6, packed.
+ghost use Rattle.flat.specs.Answers as Answers;
 ghost use Rattle.pixel_step.specs.Interface as Interface;
 use point_block::PointBlockFactor;
 use refusal::Refusal;
@@ -6,7 +7,7 @@ use refusal::Refusal;
 // out: 3
 #[no_mangle]
 pub extern "C" fn pixel_step_damping_diagonal(matrix: &[f64], out: &mut [f64]) -> u64
-    ensures { λ r. ⌜ Interface.Answered r (now (out .exit)) (Interface.dampingDiagonal (now (matrix .entry)) (now (out .entry))) ⌝ }
+    ensures { λ r. ⌜ Answers.Answered r (now (out .exit)) (Interface.dampingDiagonal (now (matrix .entry)) (now (out .entry))) ⌝ }
 {
     if !((matrix.len() == 9) & (out.len() == 3)) {
         return flat::lengths();
@@ -20,7 +21,7 @@ pub extern "C" fn pixel_step_damping_diagonal(matrix: &[f64], out: &mut [f64]) -
 // out: 9
 #[no_mangle]
 pub extern "C" fn pixel_step_damped_matrix(matrix: &[f64], damping: f64, out: &mut [f64]) -> u64
-    ensures { λ r. ⌜ Interface.Answered r (now (out .exit)) (Interface.dampedMatrix (now (matrix .entry)) damping (now (out .entry))) ⌝ }
+    ensures { λ r. ⌜ Answers.Answered r (now (out .exit)) (Interface.dampedMatrix (now (matrix .entry)) damping (now (out .entry))) ⌝ }
 {
     if !((matrix.len() == 9) & (out.len() == 9)) {
         return flat::lengths();
@@ -34,7 +35,7 @@ pub extern "C" fn pixel_step_damped_matrix(matrix: &[f64], damping: f64, out: &m
 // matrix: damped already; out: 6
 #[no_mangle]
 pub extern "C" fn pixel_step_factor_damped(matrix: &[f64], out: &mut [f64]) -> u64
-    ensures { λ r. ⌜ Interface.Answered r (now (out .exit)) (Interface.factorDamped (now (matrix .entry)) (now (out .entry))) ⌝ }
+    ensures { λ r. ⌜ Answers.Answered r (now (out .exit)) (Interface.factorDamped (now (matrix .entry)) (now (out .entry))) ⌝ }
 {
     if !((matrix.len() == 9) & (out.len() == 6)) {
         return flat::lengths();
@@ -48,7 +49,7 @@ pub extern "C" fn pixel_step_factor_damped(matrix: &[f64], out: &mut [f64]) -> u
 // out: 6; damping is not tested
 #[no_mangle]
 pub extern "C" fn pixel_step_factor(matrix: &[f64], damping: f64, out: &mut [f64]) -> u64
-    ensures { λ r. ⌜ Interface.Answered r (now (out .exit)) (Interface.factor (now (matrix .entry)) damping (now (out .entry))) ⌝ }
+    ensures { λ r. ⌜ Answers.Answered r (now (out .exit)) (Interface.factor (now (matrix .entry)) damping (now (out .entry))) ⌝ }
 {
     if !((matrix.len() == 9) & (out.len() == 6)) {
         return flat::lengths();
@@ -62,7 +63,7 @@ pub extern "C" fn pixel_step_factor(matrix: &[f64], damping: f64, out: &mut [f64
 // The lone factor. out: inverse 6, rcond
 #[no_mangle]
 pub extern "C" fn pixel_step_factor_new(matrix: &[f64], damping: f64, out: &mut [f64]) -> u64
-    ensures { λ r. ⌜ Interface.Answered r (now (out .exit)) (Interface.loneFactor (now (matrix .entry)) damping (now (out .entry))) ⌝ }
+    ensures { λ r. ⌜ Answers.Answered r (now (out .exit)) (Interface.loneFactor (now (matrix .entry)) damping (now (out .entry))) ⌝ }
 {
     if !((matrix.len() == 9) & (out.len() == 7)) {
         return flat::lengths();
@@ -76,7 +77,7 @@ pub extern "C" fn pixel_step_factor_new(matrix: &[f64], damping: f64, out: &mut 
 // inverse: 6; x: 3; out: 3
 #[no_mangle]
 pub extern "C" fn pixel_step_factor_solve(inverse: &[f64], x: &[f64], out: &mut [f64]) -> u64
-    ensures { λ r. ⌜ Interface.Answered r (now (out .exit)) (Interface.factorSolve (now (inverse .entry)) (now (x .entry)) (now (out .entry))) ⌝ }
+    ensures { λ r. ⌜ Answers.Answered r (now (out .exit)) (Interface.factorSolve (now (inverse .entry)) (now (x .entry)) (now (out .entry))) ⌝ }
 {
     if !((inverse.len() == 6) & (x.len() == 3) & (out.len() == 3)) {
         return flat::lengths();
@@ -96,7 +97,7 @@ pub extern "C" fn pixel_step_reciprocal_condition_number(
     matrix: &[f64],
     out: &mut [f64],
 ) -> u64
-    ensures { λ r. ⌜ Interface.Answered r (now (out .exit))
+    ensures { λ r. ⌜ Answers.Answered r (now (out .exit))
         (Interface.reciprocalConditionNumber (now (inverse .entry)) (now (matrix .entry)) (now (out .entry))) ⌝ }
 {
     if !((inverse.len() == 6) & (matrix.len() == 9) & (out.len() == 1)) {

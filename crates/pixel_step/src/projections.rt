@@ -1,4 +1,5 @@
 // The projection.
+ghost use Rattle.flat.specs.Answers as Answers;
 ghost use Rattle.pixel_step.specs.Interface as Interface;
 
 // camera: fx, fy, cx, cy, skew; observation: 2; point: 3; out: residual 2, Jacobian 6
@@ -9,7 +10,7 @@ pub extern "C" fn pixel_step_pixel_projection(
     point: &[f64],
     out: &mut [f64],
 ) -> u64
-    ensures { λ r. ⌜ Interface.Answered r (now (out .exit))
+    ensures { λ r. ⌜ Answers.Answered r (now (out .exit))
         (Interface.pixelProjection (now (camera .entry)) (now (observation .entry)) (now (point .entry)) (now (out .entry))) ⌝ }
 {
     if !((camera.len() == 5) & (observation.len() == 2) & (point.len() == 3) & (out.len() == 8)) {

@@ -4,13 +4,12 @@ ghost use lib.ListN.{length};
 ghost use Rattle.optimizer.specs.Problem as Problem;
 ghost use Rattle.flat.specs.Answers as Answers;
 ghost use Rattle.flat.specs.Flat as Flat;
-ghost use Rattle.pixel_step.specs.Interface as Interface;
+ghost use Rattle.step_calls.specs.Calls as Calls;
 use optimizer::StepResult;
 use refusal::Refusal;
 
 // For n points: points and room 3n, views 2n each, inverse deviations n; rig: 29; out: 12; weak: 1
-#[no_mangle]
-pub extern "C" fn pixel_step_step<'a>(
+pub fn step<'a>(
     points: &[f64],
     view1: &'a [f64],
     view2: &'a [f64],
@@ -21,8 +20,8 @@ pub extern "C" fn pixel_step_step<'a>(
     out: &mut [f64],
     weak: &mut [u16],
 ) -> u64
-    ensures { λ r. ⌜ Interface.Stepped r (now (room .exit)) (now (out .exit)) (now (weak .exit))
-        (Interface.step (Problem.problem (now (points .entry)) (now (view1 .entry)) (now (view2 .entry)) (now («inverse_deviations» .entry)) (Flat.rig (now (rig .entry))) damping)
+    ensures { λ r. ⌜ Calls.Stepped r (now (room .exit)) (now (out .exit)) (now (weak .exit))
+        (Calls.step (Problem.problem (now (points .entry)) (now (view1 .entry)) (now (view2 .entry)) (now («inverse_deviations» .entry)) (Flat.rig (now (rig .entry))) damping)
         (now (rig .entry)) (now (room .entry)) (now (out .entry)) (now (weak .entry))) ⌝ }
 {
     if !((rig.len() == 29) & (out.len() == 12) & (weak.len() == 1)) {
@@ -34,9 +33,8 @@ pub extern "C" fn pixel_step_step<'a>(
 }
 
 // x: 5; out: 5
-#[no_mangle]
-pub extern "C" fn pixel_step_limit_pose_step(x: &[f64], out: &mut [f64]) -> u64
-    ensures { λ r. ⌜ Interface.Answered r (now (out .exit)) (Interface.limitPoseStep (now (x .entry)) (now (out .entry))) ⌝ }
+pub fn limit_pose_step(x: &[f64], out: &mut [f64]) -> u64
+    ensures { λ r. ⌜ Answers.Answered r (now (out .exit)) (Calls.limitPoseStep (now (x .entry)) (now (out .entry))) ⌝ }
 {
     if !((x.len() == 5) & (out.len() == 5)) {
         return flat::lengths();

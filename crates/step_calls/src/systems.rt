@@ -3,14 +3,13 @@ ghost use mathlib.Core.Path.{_≡_};
 ghost use lib.ListN.{length};
 ghost use Rattle.flat.specs.Answers as Answers;
 ghost use Rattle.flat.specs.Flat as Flat;
-ghost use Rattle.pixel_step.specs.Interface as Interface;
+ghost use Rattle.step_calls.specs.Calls as Calls;
 use refusal::Refusal;
 use schur::ReducedSystem;
 
-#[no_mangle]
-pub extern "C" fn pixel_step_system_new(system: &mut [f64], counts: &mut [u16]) -> u64
-    ensures { λ r. ⌜ Interface.Changed r (now (system .exit)) (now (counts .exit))
-        (Interface.newSystem (now (system .entry)) (now (counts .entry))) ⌝ }
+pub fn system_new(system: &mut [f64], counts: &mut [u16]) -> u64
+    ensures { λ r. ⌜ Calls.Changed r (now (system .exit)) (now (counts .exit))
+        (Calls.newSystem (now (system .entry)) (now (counts .entry))) ⌝ }
 {
     if !((system.len() == 45) & (counts.len() == 3)) {
         return flat::lengths();
@@ -18,15 +17,9 @@ pub extern "C" fn pixel_step_system_new(system: &mut [f64], counts: &mut [u16]) 
     answer(Refusal::none(), ReducedSystem::new(), system, counts)
 }
 
-#[no_mangle]
-pub extern "C" fn pixel_step_system_add(
-    system: &mut [f64],
-    counts: &mut [u16],
-    block: &[f64],
-    damping: f64,
-) -> u64
-    ensures { λ r. ⌜ Interface.Changed r (now (system .exit)) (now (counts .exit))
-        (Interface.add (now (system .entry)) (now (counts .entry)) (now (block .entry)) damping) ⌝ }
+pub fn system_add(system: &mut [f64], counts: &mut [u16], block: &[f64], damping: f64) -> u64
+    ensures { λ r. ⌜ Calls.Changed r (now (system .exit)) (now (counts .exit))
+        (Calls.add (now (system .entry)) (now (counts .entry)) (now (block .entry)) damping) ⌝ }
 {
     if !((system.len() == 45) & (counts.len() == 3) & (block.len() == 59)) {
         return flat::lengths();
@@ -38,14 +31,9 @@ pub extern "C" fn pixel_step_system_add(
     answer(refusal, next, system, counts)
 }
 
-#[no_mangle]
-pub extern "C" fn pixel_step_system_finish_damping(
-    system: &mut [f64],
-    counts: &mut [u16],
-    damping: f64,
-) -> u64
-    ensures { λ r. ⌜ Interface.Changed r (now (system .exit)) (now (counts .exit))
-        (Interface.finishDamping (now (system .entry)) (now (counts .entry)) damping) ⌝ }
+pub fn system_finish_damping(system: &mut [f64], counts: &mut [u16], damping: f64) -> u64
+    ensures { λ r. ⌜ Calls.Changed r (now (system .exit)) (now (counts .exit))
+        (Calls.finishDamping (now (system .entry)) (now (counts .entry)) damping) ⌝ }
 {
     if !((system.len() == 45) & (counts.len() == 3)) {
         return flat::lengths();
@@ -58,10 +46,9 @@ pub extern "C" fn pixel_step_system_finish_damping(
 }
 
 // out: 0 or 1
-#[no_mangle]
-pub extern "C" fn pixel_step_system_is_valid(system: &[f64], counts: &[u16], out: &mut [u16]) -> u64
-    ensures { λ r. ⌜ Interface.Answered r (now (out .exit))
-        (Interface.isValid (now (system .entry)) (now (counts .entry)) (now (out .entry))) ⌝ }
+pub fn system_is_valid(system: &[f64], counts: &[u16], out: &mut [u16]) -> u64
+    ensures { λ r. ⌜ Answers.Answered r (now (out .exit))
+        (Calls.isValid (now (system .entry)) (now (counts .entry)) (now (out .entry))) ⌝ }
 {
     if !((system.len() == 45) & (counts.len() == 3) & (out.len() == 1)) {
         return flat::lengths();
@@ -72,14 +59,9 @@ pub extern "C" fn pixel_step_system_is_valid(system: &[f64], counts: &[u16], out
 }
 
 // out: 1
-#[no_mangle]
-pub extern "C" fn pixel_step_system_scaled_gradient_inf_norm(
-    system: &[f64],
-    counts: &[u16],
-    out: &mut [f64],
-) -> u64
-    ensures { λ r. ⌜ Interface.Answered r (now (out .exit))
-        (Interface.gradientInfNorm (now (system .entry)) (now (counts .entry)) (now (out .entry))) ⌝ }
+pub fn system_scaled_gradient_inf_norm(system: &[f64], counts: &[u16], out: &mut [f64]) -> u64
+    ensures { λ r. ⌜ Answers.Answered r (now (out .exit))
+        (Calls.gradientInfNorm (now (system .entry)) (now (counts .entry)) (now (out .entry))) ⌝ }
 {
     if !((system.len() == 45) & (counts.len() == 3) & (out.len() == 1)) {
         return flat::lengths();
@@ -90,8 +72,7 @@ pub extern "C" fn pixel_step_system_scaled_gradient_inf_norm(
 }
 
 // step: 5; out: 1
-#[no_mangle]
-pub extern "C" fn pixel_step_system_predicted_reduction(
+pub fn system_predicted_reduction(
     system: &[f64],
     counts: &[u16],
     step: &[f64],
@@ -99,8 +80,8 @@ pub extern "C" fn pixel_step_system_predicted_reduction(
     point_damping_norm: f64,
     out: &mut [f64],
 ) -> u64
-    ensures { λ r. ⌜ Interface.Answered r (now (out .exit))
-        (Interface.predictedReduction (now (system .entry)) (now (counts .entry)) (now (step .entry)) damping «point_damping_norm» (now (out .entry))) ⌝ }
+    ensures { λ r. ⌜ Answers.Answered r (now (out .exit))
+        (Calls.predictedReduction (now (system .entry)) (now (counts .entry)) (now (step .entry)) damping «point_damping_norm» (now (out .entry))) ⌝ }
 {
     if !((system.len() == 45) & (counts.len() == 3) & (step.len() == 5) & (out.len() == 1)) {
         return flat::lengths();

@@ -1,6 +1,4 @@
 -- `flat::structs::rig` meets its contract. Assumes nothing.
-use mathlib.Core.Path.{_≡_}
-use lib.ListN.{length}
 use Rattle.flat.proofs.Laws.{rig-of}
 use borrow.Author.Needs.{needs}
 use Rattle.flat.proofs.structs.rig.Statement.{statement}

@@ -1,13 +1,12 @@
--- `pixel_step::steps::pixel_step_limit_pose_step` meets its contract. Assumes nothing.
+-- `step_calls::steps::limit_pose_step` meets its contract. Assumes nothing.
 use mathlib.Core.Path.{_≡_, sym, ap, _∙_}
 use lib.ListN.{length}
 use Rattle.optimizer.specs.Step as Step
-use Rattle.pixel_step.specs.Interface.{limitPoseStep}
-use Rattle.flat.proofs.Laws.{whole}
-use Rattle.pixel_step.proofs.Laws.{too-short, answers, two-fit}
+use Rattle.step_calls.specs.Calls.{limitPoseStep}
+use Rattle.flat.proofs.Laws.{whole, too-short, answers, two-fit}
 use borrow.Author.Needs.{needs}
-use Rattle.pixel_step.proofs.steps.pixel_step_limit_pose_step.Statement.{statement}
-use Rattle.pixel_step.proofs.steps.pixel_step_limit_pose_step.Tie as tie
+use Rattle.step_calls.proofs.steps.limit_pose_step.Statement.{statement}
+use Rattle.step_calls.proofs.steps.limit_pose_step.Tie as tie
 
 fit : (c : tie.Else1) → (length (c .before .before .before .args .x .now) ≡ 5) × (length (c .before .before .before .args .out .now) ≡ 5)
 fit c = two-fit (length (c .before .before .before .args .x .now)) (length (c .before .before .before .args .out .now)) 5 5 (c .if1 .left)
@@ -26,8 +25,8 @@ returns-2 c =
     let f = fit (c .before .before .before .before .before .before .before .before) in
     answers _ _ _ _ _ _ _ _ (c .before .before .before .before .before .before .before .before .if1 .left) (c .before .before .before .before .before .none .ensures) (c .before .before .before .before .before .before .limit-pose-step .ensures ∙ ap Step.limitPoseStep (whole _ 5 _ (f .0) (c .before .before .before .before .before .before .before .vector5 .ensures))) (sized (c .before .before .before) ∙ sym (f .1)) (c .before .before .answer .ensures)
 
-pub pixel-step-limit-pose-step-spec : {M : Type 1} → statement M
-pixel-step-limit-pose-step-spec =
+pub limit-pose-step-spec : {M : Type 1} → statement M
+limit-pose-step-spec =
     tie.close
     (tie.spec
     (λ c κs. search needs)

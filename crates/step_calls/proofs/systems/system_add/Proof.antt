@@ -1,4 +1,4 @@
--- `pixel_step::systems::pixel_step_system_add` meets its contract. Assumes nothing.
+-- `step_calls::systems::system_add` meets its contract. Assumes nothing.
 use mathlib.Core.Path.{_≡_, ap, _∙_}
 use lib.ListN.{length}
 use Rattle.schur.specs.System as System
@@ -6,11 +6,12 @@ use Rattle.linearization.specs.declared.linearize.LocalLinearization.{LocalLine
 use Rattle.schur.specs.declared.system.Added.{Added}
 use Rattle.schur.specs.declared.system.ReducedSystem.{ReducedSystem}
 use Rattle.flat.specs.Flat.{system}
-use Rattle.pixel_step.specs.Interface.{add}
-use Rattle.pixel_step.proofs.Laws.{too-short-system, changes, three-fit}
+use Rattle.step_calls.specs.Calls.{add}
+use Rattle.flat.proofs.Laws.{three-fit}
+use Rattle.step_calls.proofs.Laws.{too-short-system, changes}
 use borrow.Author.Needs.{needs}
-use Rattle.pixel_step.proofs.systems.pixel_step_system_add.Statement.{statement}
-use Rattle.pixel_step.proofs.systems.pixel_step_system_add.Tie as tie
+use Rattle.step_calls.proofs.systems.system_add.Statement.{statement}
+use Rattle.step_calls.proofs.systems.system_add.Tie as tie
 
 fit : (c : tie.Else1) → (length (c .before .before .before .before .args .system .now) ≡ 45) × (length (c .before .before .before .before .args .counts .now) ≡ 3) × (length (c .before .before .before .before .args .block .now) ≡ 59)
 fit c = three-fit (length (c .before .before .before .before .args .system .now)) (length (c .before .before .before .before .args .counts .now)) (length (c .before .before .before .before .args .block .now)) 45 3 59 (c .if1 .left)
@@ -35,8 +36,8 @@ returns-2 c =
     ∙ ap (λ (b : LocalLinearization). System.add (system (start .args .system .now) (start .args .counts .now)) b (start .args .damping)) (c .before .before .before .before .before .before .before .before .before .before .block .ensures (f .2)) in
     changes _ _ _ _ _ _ _ _ _ _ (c .before .before .before .before .before .before .before .before .before .before .before .before .before .before .if1 .left) (ap (λ (a : Added). a .refusal) e) (ap (λ (a : Added). a .system) e) (c .before .before .before .before .answer .ensures)
 
-pub pixel-step-system-add-spec : {M : Type 1} → statement M
-pixel-step-system-add-spec =
+pub system-add-spec : {M : Type 1} → statement M
+system-add-spec =
     tie.close
     (tie.spec
     (λ c κs. search needs)

@@ -1,11 +1,12 @@
--- `pixel_step::systems::pixel_step_system_new` meets its contract. Assumes nothing.
+-- `step_calls::systems::system_new` meets its contract. Assumes nothing.
 use mathlib.Core.Path.{_≡_}
 use lib.ListN.{length}
-use Rattle.pixel_step.specs.Interface.{newSystem}
-use Rattle.pixel_step.proofs.Laws.{too-short-system, changes, two-fit}
+use Rattle.step_calls.specs.Calls.{newSystem}
+use Rattle.flat.proofs.Laws.{two-fit}
+use Rattle.step_calls.proofs.Laws.{too-short-system, changes}
 use borrow.Author.Needs.{needs}
-use Rattle.pixel_step.proofs.systems.pixel_step_system_new.Statement.{statement}
-use Rattle.pixel_step.proofs.systems.pixel_step_system_new.Tie as tie
+use Rattle.step_calls.proofs.systems.system_new.Statement.{statement}
+use Rattle.step_calls.proofs.systems.system_new.Tie as tie
 
 fit : (c : tie.Else1) → (length (c .before .before .before .args .system .now) ≡ 45) × (length (c .before .before .before .args .counts .now) ≡ 3)
 fit c = two-fit (length (c .before .before .before .args .system .now)) (length (c .before .before .before .args .counts .now)) 45 3 (c .if1 .left)
@@ -25,8 +26,8 @@ returns-2 c =
     let f = fit (c .before .before .before .before .before .before .before .before .before) in
     changes _ _ _ _ _ _ _ _ _ _ (c .before .before .before .before .before .before .before .before .before .if1 .left) (c .before .before .before .before .before .before .before .before .none .ensures) (c .before .before .before .before .before .before .before .new .ensures) (c .before .before .before .before .answer .ensures)
 
-pub pixel-step-system-new-spec : {M : Type 1} → statement M
-pixel-step-system-new-spec =
+pub system-new-spec : {M : Type 1} → statement M
+system-new-spec =
     tie.close
     (tie.spec
     (λ c κs. search needs)

@@ -1,4 +1,4 @@
--- `pixel_step::systems::pixel_step_system_predicted_reduction` meets its contract. Assumes nothing.
+-- `step_calls::systems::system_predicted_reduction` meets its contract. Assumes nothing.
 use mathlib.Core.Path.{_≡_, sym, ap, _∙_}
 use mathlib.Core.List.{List, [], _∷_}
 use lib.ListN.{length}
@@ -7,12 +7,11 @@ use Rattle.schur.specs.Model as Model
 use Rattle.schur.specs.declared.system.ReducedSystem.{ReducedSystem}
 use Rattle.schur.specs.declared.system.Predicted.{Predicted}
 use Rattle.flat.specs.Flat.{system}
-use Rattle.pixel_step.specs.Interface.{predictedReduction}
-use Rattle.flat.proofs.Laws.{whole}
-use Rattle.pixel_step.proofs.Laws.{too-short, answers, four-fit}
+use Rattle.step_calls.specs.Calls.{predictedReduction}
+use Rattle.flat.proofs.Laws.{whole, too-short, answers, four-fit}
 use borrow.Author.Needs.{needs}
-use Rattle.pixel_step.proofs.systems.pixel_step_system_predicted_reduction.Statement.{statement}
-use Rattle.pixel_step.proofs.systems.pixel_step_system_predicted_reduction.Tie as tie
+use Rattle.step_calls.proofs.systems.system_predicted_reduction.Statement.{statement}
+use Rattle.step_calls.proofs.systems.system_predicted_reduction.Tie as tie
 
 fit : (c : tie.Else1) → (length (c .before .before .before .before .before .args .system .now) ≡ 45) × (length (c .before .before .before .before .before .args .counts .now) ≡ 3) × (length (c .before .before .before .before .before .args .step .now) ≡ 5) × (length (c .before .before .before .before .before .args .out .now) ≡ 1)
 fit c = four-fit (length (c .before .before .before .before .before .args .system .now)) (length (c .before .before .before .before .before .args .counts .now)) (length (c .before .before .before .before .before .args .step .now)) (length (c .before .before .before .before .before .args .out .now)) 45 3 5 1 (c .if1 .left)
@@ -32,8 +31,8 @@ returns-2 c =
     ∙ ap (λ (l : List Float). Model.predictedReduction (system (start .args .system .now) (start .args .counts .now)) l (start .args .damping) (start .args .point-damping-norm)) (whole _ 5 _ (f .2) (c .before .before .before .before .before .before .before .vector5 .ensures)) in
     answers _ _ _ _ _ _ _ _ (c .before .before .before .before .before .before .before .before .before .if1 .left) (ap (λ (p : Predicted). p .refusal) e) (ap (λ (p : Predicted). p .reduction ∷ []) e) (sym (f .3)) (c .before .before .answer .ensures)
 
-pub pixel-step-system-predicted-reduction-spec : {M : Type 1} → statement M
-pixel-step-system-predicted-reduction-spec =
+pub system-predicted-reduction-spec : {M : Type 1} → statement M
+system-predicted-reduction-spec =
     tie.close
     (tie.spec
     (λ c κs. search needs)
