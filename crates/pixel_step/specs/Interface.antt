@@ -1,65 +1,29 @@
--- What each call of the C interface answers, and what the memory that it may write holds afterwards: the result where nothing is refused, and what it held before otherwise.
-use Prim.Native.Nat.{ℕ, _+_, _*_}
+-- What each call of the C interface answers, and what the memory that it may write holds afterwards: the result where nothing is refused, and what it held before otherwise. The calls on a system and the whole step are in `step_calls`.
+use Prim.Native.Nat.{ℕ}
 use mathlib.Core.Path.{_≡_}
-use mathlib.Core.Bool.{Bool, _&&_, cond}
+use mathlib.Core.Bool.{_&&_, cond}
 use mathlib.Core.List.{List, [], _∷_}
-use lib.Dec.{eqb, leb}
+use lib.Dec.{leb}
 use lib.ListN.{length}
 use lib.Ieee.{Float}
-use Rattle.number.specs.Vectors.{_!_}
-use Rattle.refusal.specs.Rows as Rows
-use Rattle.refusal.specs.Refused.{of, none, isNone}
-use Rattle.refusal.specs.declared.Refusal.{Refusal}
+use Rattle.refusal.specs.Refused.{none}
 use Rattle.projection.specs.Projection as Projection
 use Rattle.point_block.specs.Damping as Damping
 use Rattle.point_block.specs.Factor as Factor
 use Rattle.point_block.specs.Condition as Condition
 use Rattle.point_block.specs.Lone as Lone
 use Rattle.solver.specs.Solver as Solver
-use Rattle.record.specs.Text.{pasted}
-use Rattle.record.specs.Lists.{list}
 use Rattle.linearization.specs.Linearize as Linearize
-use Rattle.schur.specs.System as System
-use Rattle.schur.specs.Model as Model
 use Rattle.point_step.specs.PointStep as PointStep
-use Rattle.schur.specs.declared.system.ReducedSystem.{ReducedSystem}
-use Rattle.optimizer.specs.Problem.{Problem}
-use Rattle.optimizer.specs.Step as Step
-use Rattle.pixel_step.specs.Flat.{camera, rig, correspondence, block, blockNumbers, system, systemNumbers, systemCounts, flag, stepNumbers, stepCount}
-
--- a refusal as one number
-unfoldable pub code : Refusal → ℕ
-code r = r .number + 256 * r .view + 65536 * r .index
-
-abbrev pub lengthsCode : ℕ
-lengthsCode = code (of Rows.lengths)
-
-unfoldable pub stored : {A : Type 0} → Refusal → List A → List A → List A
-stored r values out = cond (isNone r) values out
-
--- the number that comes back, and `out`
-pub record Answer (A : Type 0) : Type 0 where
-  pub number : ℕ
-  pub out : List A
-
-pub record Answered {A : Type 0} (number : ℕ) (out : List A) (a : Answer A) : Type 0 where
-  pub same-number : number ≡ a .number
-  pub same-out : out ≡ a .out
-
--- row 1 where the lengths do not fit, then the call's own refusal or its values
-unfoldable pub answer : {A : Type 0} → Bool → Refusal → List A → List A → Answer A
-answer fits refusal values out =
-    cond fits (record { number = code refusal; out = stored refusal values out }) (record { number = lengthsCode; out = out })
-
-abbrev pub long : {A : Type 0} → List A → ℕ → Bool
-long l n = eqb (length l) n
+use Rattle.text.specs.Text.{pasted}
+use Rattle.record.specs.Lists.{list}
+use Rattle.flat.specs.Flat.{camera, rig, correspondence, block, blockNumbers, projectionNumbers, factorNumbers, pointStepNumbers}
+use Rattle.flat.specs.Answers.{Answer, answer, long}
 
 unfoldable pub pixelProjection : List Float → List Float → List Float → List Float → Answer Float
 pixelProjection c observation point out =
     let p = Projection.pixelProjection (camera c) observation point in
-    let r = p .residual in
-    let j = p .jacobian in
-    answer (long c 5 && long observation 2 && long point 3 && long out 8) (p .refusal) (r ! 0 ∷ r ! 1 ∷ j ! 0 ∷ j ! 1 ∷ j ! 2 ∷ j ! 3 ∷ j ! 4 ∷ j ! 5 ∷ []) out
+    answer (long c 5 && long observation 2 && long point 3 && long out 8) (p .refusal) (projectionNumbers p) out
 
 unfoldable pub dampingDiagonal : List Float → List Float → Answer Float
 dampingDiagonal matrix out =
@@ -84,8 +48,7 @@ factor matrix damping out =
 unfoldable pub loneFactor : List Float → Float → List Float → Answer Float
 loneFactor matrix damping out =
     let f = Lone.loneFactor matrix damping in
-    let i = f .inverse in
-    answer (long matrix 9 && long out 7) (f .refusal) (i ! 0 ∷ i ! 1 ∷ i ! 2 ∷ i ! 3 ∷ i ! 4 ∷ i ! 5 ∷ f .rcond ∷ []) out
+    answer (long matrix 9 && long out 7) (f .refusal) (factorNumbers f) out
 
 unfoldable pub factorSolve : List Float → List Float → List Float → Answer Float
 factorSolve inverse x out = answer (long inverse 6 && long x 3 && long out 3) none (Factor.solve inverse x) out
@@ -106,76 +69,9 @@ linearizePoint x d out =
 unfoldable pub pointStep : List Float → Float → List Float → List Float → Answer Float
 pointStep b damping poseStep out =
     let p = PointStep.pointStep (block b) damping poseStep in
-    answer (long b 59 && long poseStep 5 && long out 4) (p .refusal) (p .step ! 0 ∷ p .step ! 1 ∷ p .step ! 2 ∷ p .«damping_norm» ∷ []) out
+    answer (long b 59 && long poseStep 5 && long out 4) (p .refusal) (pointStepNumbers p) out
 
--- ---- calls on a system: 45 numbers, and the weak count, the block count and the flag
-
--- the number that comes back, and the lent system
-pub record Change : Type 0 where
-  pub number : ℕ
-  pub numbers : List Float
-  pub counts : List ℕ
-
-pub record Changed (number : ℕ) (numbers : List Float) (counts : List ℕ) (a : Change) : Type 0 where
-  pub same-number : number ≡ a .number
-  pub same-numbers : numbers ≡ a .numbers
-  pub same-counts : counts ≡ a .counts
-
--- row 1 where the lengths do not fit, then the call's own refusal or the next system
-unfoldable pub change : Bool → Refusal → ReducedSystem → List Float → List ℕ → Change
-change fits refusal s numbers counts =
-    cond fits (record { number = code refusal; numbers = stored refusal (systemNumbers s) numbers; counts = stored refusal (systemCounts s) counts })
-    (record { number = lengthsCode; numbers = numbers; counts = counts })
-
-unfoldable pub newSystem : List Float → List ℕ → Change
-newSystem x counts = change (long x 45 && long counts 3) none System.newSystem x counts
-
-unfoldable pub add : List Float → List ℕ → List Float → Float → Change
-add x counts b damping =
-    let a = System.add (system x counts) (block b) damping in
-    change (long x 45 && long counts 3 && long b 59) (a .refusal) (a .system) x counts
-
-unfoldable pub finishDamping : List Float → List ℕ → Float → Change
-finishDamping x counts damping =
-    let a = Model.finishDamping (system x counts) damping in
-    change (long x 45 && long counts 3) (a .refusal) (a .system) x counts
-
-unfoldable pub isValid : List Float → List ℕ → List ℕ → Answer ℕ
-isValid x counts out = answer (long x 45 && long counts 3 && long out 1) none (flag (Model.isValid (system x counts)) ∷ []) out
-
-unfoldable pub gradientInfNorm : List Float → List ℕ → List Float → Answer Float
-gradientInfNorm x counts out = answer (long x 45 && long counts 3 && long out 1) none (Model.gradientInfNorm (system x counts) ∷ []) out
-
-unfoldable pub predictedReduction : List Float → List ℕ → List Float → Float → Float → List Float → Answer Float
-predictedReduction x counts step damping pointDampingNorm out =
-    let p = Model.predictedReduction (system x counts) step damping pointDampingNorm in
-    answer (long x 45 && long counts 3 && long step 5 && long out 1) (p .refusal) (p .reduction ∷ []) out
-
--- ---- the whole step
-
--- the number that comes back, and the room, the numbers and the count that are lent
-pub record Moved : Type 0 where
-  pub number : ℕ
-  pub room : List Float
-  pub out : List Float
-  pub weak : List ℕ
-
-pub record Stepped (number : ℕ) (room out : List Float) (weak : List ℕ) (a : Moved) : Type 0 where
-  pub same-number : number ≡ a .number
-  pub same-room : room ≡ a .room
-  pub same-out : out ≡ a .out
-  pub same-weak : weak ≡ a .weak
-
--- row 1 where the rig's length or that of the result's memory does not fit, then the step's own rows or its result
-unfoldable pub step : Problem → List Float → List Float → List Float → List ℕ → Moved
-step p x room out weak =
-    let r = Step.step p (length room) in
-    cond (long x 29 && long out 12 && long weak 1)
-    (record { number = code (r .refusal); room = Step.written p r room; out = stored (r .refusal) (stepNumbers r) out; weak = stored (r .refusal) (stepCount r) weak })
-    (record { number = lengthsCode; room = room; out = out; weak = weak })
-
-unfoldable pub limitPoseStep : List Float → List Float → Answer Float
-limitPoseStep x out = answer (long x 5 && long out 5) none (Step.limitPoseStep x) out
+-- ---- a list
 
 -- the list's length, and the list in out where it fits there
 pub record Listed (r out : List ℕ) (number : ℕ) (after : List ℕ) : Type 0 where

@@ -1,2 +1,2 @@
-pub mod Flat
+-- What the calls of the C interface answer.
 pub mod Interface

@@ -1,7 +1,6 @@
 // The block of one point, and how the point moves. A block is 59 numbers.
+ghost use Rattle.flat.specs.Answers as Answers;
 ghost use Rattle.pixel_step.specs.Interface as Interface;
-use crate::flat;
-use crate::memory;
 
 // rig: 29; correspondence: point, view 1, view 2, inverse deviation, 8; out: a block
 #[no_mangle]
@@ -10,11 +9,11 @@ pub extern "C" fn pixel_step_linearize_point(
     correspondence: &[f64],
     out: &mut [f64],
 ) -> u64
-    ensures { λ r. ⌜ Interface.Answered r (now (out .exit))
+    ensures { λ r. ⌜ Answers.Answered r (now (out .exit))
         (Interface.linearizePoint (now (rig .entry)) (now (correspondence .entry)) (now (out .entry))) ⌝ }
 {
     if !((rig.len() == 29) & (correspondence.len() == 8) & (out.len() == 59)) {
-        return memory::lengths();
+        return flat::lengths();
     }
     let r = flat::rig(rig);
     let camera1 = r.camera1;
@@ -28,7 +27,7 @@ pub extern "C" fn pixel_step_linearize_point(
     );
     let refusal = b.refusal;
     let values = flat::block_numbers(b);
-    memory::answer(refusal, &values, out)
+    flat::answer(refusal, &values, out)
 }
 
 // pose_step: 5; out: step 3, damping norm
@@ -39,16 +38,15 @@ pub extern "C" fn pixel_step_point_step_with_damping_norm(
     pose_step: &[f64],
     out: &mut [f64],
 ) -> u64
-    ensures { λ r. ⌜ Interface.Answered r (now (out .exit))
+    ensures { λ r. ⌜ Answers.Answered r (now (out .exit))
         (Interface.pointStep (now (block .entry)) damping (now («pose_step» .entry)) (now (out .entry))) ⌝ }
 {
     if !((block.len() == 59) & (pose_step.len() == 5) & (out.len() == 4)) {
-        return memory::lengths();
+        return flat::lengths();
     }
     let b = flat::block(block);
-    let p = point_step::point_step_with_damping_norm(b, damping, memory::vector5(pose_step));
+    let p = point_step::point_step_with_damping_norm(b, damping, flat::vector5(pose_step, 0));
     let refusal = p.refusal;
-    let s = p.step;
-    let values = [s[0], s[1], s[2], p.damping_norm];
-    memory::answer(refusal, &values, out)
+    let values = flat::point_step_numbers(p);
+    flat::answer(refusal, &values, out)
 }

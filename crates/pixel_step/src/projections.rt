@@ -1,7 +1,6 @@
 // The projection.
+ghost use Rattle.flat.specs.Answers as Answers;
 ghost use Rattle.pixel_step.specs.Interface as Interface;
-use crate::flat;
-use crate::memory;
 
 // camera: fx, fy, cx, cy, skew; observation: 2; point: 3; out: residual 2, Jacobian 6
 #[no_mangle]
@@ -11,20 +10,18 @@ pub extern "C" fn pixel_step_pixel_projection(
     point: &[f64],
     out: &mut [f64],
 ) -> u64
-    ensures { λ r. ⌜ Interface.Answered r (now (out .exit))
+    ensures { λ r. ⌜ Answers.Answered r (now (out .exit))
         (Interface.pixelProjection (now (camera .entry)) (now (observation .entry)) (now (point .entry)) (now (out .entry))) ⌝ }
 {
     if !((camera.len() == 5) & (observation.len() == 2) & (point.len() == 3) & (out.len() == 8)) {
-        return memory::lengths();
+        return flat::lengths();
     }
     let p = projection::pixel_projection(
-        flat::camera(camera),
-        memory::vector2(observation),
-        memory::vector3(point),
+        flat::camera(camera, 0),
+        flat::vector2(observation, 0),
+        flat::vector3(point, 0),
     );
     let refusal = p.refusal;
-    let r = p.residual;
-    let j = p.jacobian;
-    let values = [r[0], r[1], j[0], j[1], j[2], j[3], j[4], j[5]];
-    memory::answer(refusal, &values, out)
+    let values = flat::projection_numbers(p);
+    flat::answer(refusal, &values, out)
 }

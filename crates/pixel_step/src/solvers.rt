@@ -1,18 +1,18 @@
 // The 5 by 5 solve.
+ghost use Rattle.flat.specs.Answers as Answers;
 ghost use Rattle.pixel_step.specs.Interface as Interface;
-use crate::memory;
 
 // a: 25 numbers, row by row; b: 5; out: 5
 #[no_mangle]
 pub extern "C" fn pixel_step_solve_positive_definite(a: &[f64], b: &[f64], out: &mut [f64]) -> u64
-    ensures { λ r. ⌜ Interface.Answered r (now (out .exit))
+    ensures { λ r. ⌜ Answers.Answered r (now (out .exit))
         (Interface.solvePositiveDefinite (now (a .entry)) (now (b .entry)) (now (out .entry))) ⌝ }
 {
     if !((a.len() == 25) & (b.len() == 5) & (out.len() == 5)) {
-        return memory::lengths();
+        return flat::lengths();
     }
-    let s = solver::solve_positive_definite(memory::vector25(a), memory::vector5(b));
+    let s = solver::solve_positive_definite(flat::vector25(a, 0), flat::vector5(b, 0));
     let refusal = s.refusal;
     let values = s.x;
-    memory::answer(refusal, &values, out)
+    flat::answer(refusal, &values, out)
 }

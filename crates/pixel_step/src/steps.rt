@@ -1,13 +1,8 @@
 // One whole step of the two-view problem, and the limit of the pose step.
-ghost use mathlib.Core.Path.{_≡_};
-ghost use lib.ListN.{length};
 ghost use Rattle.optimizer.specs.Problem as Problem;
-ghost use Rattle.pixel_step.specs.Flat as Flat;
-ghost use Rattle.pixel_step.specs.Interface as Interface;
-use crate::flat;
-use crate::memory;
-use optimizer::StepResult;
-use refusal::Refusal;
+ghost use Rattle.flat.specs.Answers as Answers;
+ghost use Rattle.flat.specs.Flat as Flat;
+ghost use Rattle.step_calls.specs.Calls as Calls;
 
 // For n points: points and room 3n, views 2n each, inverse deviations n; rig: 29; out: 12; weak: 1
 #[no_mangle]
@@ -22,43 +17,27 @@ pub extern "C" fn pixel_step_step<'a>(
     out: &mut [f64],
     weak: &mut [u16],
 ) -> u64
-    ensures { λ r. ⌜ Interface.Stepped r (now (room .exit)) (now (out .exit)) (now (weak .exit))
-        (Interface.step (Problem.problem (now (points .entry)) (now (view1 .entry)) (now (view2 .entry)) (now («inverse_deviations» .entry)) (Flat.rig (now (rig .entry))) damping)
+    ensures { λ r. ⌜ Calls.Stepped r (now (room .exit)) (now (out .exit)) (now (weak .exit))
+        (Calls.step (Problem.problem (now (points .entry)) (now (view1 .entry)) (now (view2 .entry)) (now («inverse_deviations» .entry)) (Flat.rig (now (rig .entry))) damping)
         (now (rig .entry)) (now (room .entry)) (now (out .entry)) (now (weak .entry))) ⌝ }
 {
-    if !((rig.len() == 29) & (out.len() == 12) & (weak.len() == 1)) {
-        return memory::lengths();
-    }
-    let r = flat::rig(rig);
-    let done = optimizer::step(points, view1, view2, inverse_deviations, r, damping, room);
-    answer(done, out, weak)
+    step_calls::step(
+        points,
+        view1,
+        view2,
+        inverse_deviations,
+        rig,
+        damping,
+        room,
+        out,
+        weak,
+    )
 }
 
 // x: 5; out: 5
 #[no_mangle]
 pub extern "C" fn pixel_step_limit_pose_step(x: &[f64], out: &mut [f64]) -> u64
-    ensures { λ r. ⌜ Interface.Answered r (now (out .exit)) (Interface.limitPoseStep (now (x .entry)) (now (out .entry))) ⌝ }
+    ensures { λ r. ⌜ Answers.Answered r (now (out .exit)) (Calls.limitPoseStep (now (x .entry)) (now (out .entry))) ⌝ }
 {
-    if !((x.len() == 5) & (out.len() == 5)) {
-        return memory::lengths();
-    }
-    let values = optimizer::limit_pose_step(memory::vector5(x));
-    memory::answer(Refusal::none(), &values, out)
-}
-
-// Stores numbers and weak count where nothing was refused, and answers the refusal's code.
-fn answer(done: StepResult, out: &mut [f64], weak: &mut [u16]) -> u64
-    requires { ⌜ (length (now out) ≡ 12) × (length (now weak) ≡ 1) ⌝ }
-    ensures { λ r. ⌜ (r ≡ Interface.code (done .refusal))
-        × (now (out .exit) ≡ Interface.stored (done .refusal) (Flat.stepNumbers done) (now (out .entry)))
-        × (now (weak .exit) ≡ Interface.stored (done .refusal) (Flat.stepCount done) (now (weak .entry))) ⌝ }
-{
-    let refusal = done.refusal;
-    if !refusal.is_none() {
-        return memory::code(refusal);
-    }
-    let values = flat::step_numbers(done);
-    memory::put(&values, 0, out);
-    weak[0] = done.weak_point_count;
-    memory::code(refusal)
+    step_calls::limit_pose_step(x, out)
 }

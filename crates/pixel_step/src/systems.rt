@@ -1,22 +1,13 @@
 // The reduced system: 45 numbers, and beside them the weak count, the block count and the flag.
-ghost use mathlib.Core.Path.{_≡_};
-ghost use lib.ListN.{length};
-ghost use Rattle.pixel_step.specs.Flat as Flat;
-ghost use Rattle.pixel_step.specs.Interface as Interface;
-use crate::flat;
-use crate::memory;
-use refusal::Refusal;
-use schur::ReducedSystem;
+ghost use Rattle.flat.specs.Answers as Answers;
+ghost use Rattle.step_calls.specs.Calls as Calls;
 
 #[no_mangle]
 pub extern "C" fn pixel_step_system_new(system: &mut [f64], counts: &mut [u16]) -> u64
-    ensures { λ r. ⌜ Interface.Changed r (now (system .exit)) (now (counts .exit))
-        (Interface.newSystem (now (system .entry)) (now (counts .entry))) ⌝ }
+    ensures { λ r. ⌜ Calls.Changed r (now (system .exit)) (now (counts .exit))
+        (Calls.newSystem (now (system .entry)) (now (counts .entry))) ⌝ }
 {
-    if !((system.len() == 45) & (counts.len() == 3)) {
-        return memory::lengths();
-    }
-    answer(Refusal::none(), ReducedSystem::new(), system, counts)
+    step_calls::system_new(system, counts)
 }
 
 #[no_mangle]
@@ -26,17 +17,10 @@ pub extern "C" fn pixel_step_system_add(
     block: &[f64],
     damping: f64,
 ) -> u64
-    ensures { λ r. ⌜ Interface.Changed r (now (system .exit)) (now (counts .exit))
-        (Interface.add (now (system .entry)) (now (counts .entry)) (now (block .entry)) damping) ⌝ }
+    ensures { λ r. ⌜ Calls.Changed r (now (system .exit)) (now (counts .exit))
+        (Calls.add (now (system .entry)) (now (counts .entry)) (now (block .entry)) damping) ⌝ }
 {
-    if !((system.len() == 45) & (counts.len() == 3) & (block.len() == 59)) {
-        return memory::lengths();
-    }
-    let s = flat::system(system, counts);
-    let added = s.add(flat::block(block), damping);
-    let refusal = added.refusal;
-    let next = added.system;
-    answer(refusal, next, system, counts)
+    step_calls::system_add(system, counts, block, damping)
 }
 
 #[no_mangle]
@@ -45,31 +29,19 @@ pub extern "C" fn pixel_step_system_finish_damping(
     counts: &mut [u16],
     damping: f64,
 ) -> u64
-    ensures { λ r. ⌜ Interface.Changed r (now (system .exit)) (now (counts .exit))
-        (Interface.finishDamping (now (system .entry)) (now (counts .entry)) damping) ⌝ }
+    ensures { λ r. ⌜ Calls.Changed r (now (system .exit)) (now (counts .exit))
+        (Calls.finishDamping (now (system .entry)) (now (counts .entry)) damping) ⌝ }
 {
-    if !((system.len() == 45) & (counts.len() == 3)) {
-        return memory::lengths();
-    }
-    let s = flat::system(system, counts);
-    let finished = s.finish_damping(damping);
-    let refusal = finished.refusal;
-    let next = finished.system;
-    answer(refusal, next, system, counts)
+    step_calls::system_finish_damping(system, counts, damping)
 }
 
 // out: 0 or 1
 #[no_mangle]
 pub extern "C" fn pixel_step_system_is_valid(system: &[f64], counts: &[u16], out: &mut [u16]) -> u64
-    ensures { λ r. ⌜ Interface.Answered r (now (out .exit))
-        (Interface.isValid (now (system .entry)) (now (counts .entry)) (now (out .entry))) ⌝ }
+    ensures { λ r. ⌜ Answers.Answered r (now (out .exit))
+        (Calls.isValid (now (system .entry)) (now (counts .entry)) (now (out .entry))) ⌝ }
 {
-    if !((system.len() == 45) & (counts.len() == 3) & (out.len() == 1)) {
-        return memory::lengths();
-    }
-    let s = flat::system(system, counts);
-    out[0] = flag(s.is_valid());
-    memory::code(Refusal::none())
+    step_calls::system_is_valid(system, counts, out)
 }
 
 // out: 1
@@ -79,15 +51,10 @@ pub extern "C" fn pixel_step_system_scaled_gradient_inf_norm(
     counts: &[u16],
     out: &mut [f64],
 ) -> u64
-    ensures { λ r. ⌜ Interface.Answered r (now (out .exit))
-        (Interface.gradientInfNorm (now (system .entry)) (now (counts .entry)) (now (out .entry))) ⌝ }
+    ensures { λ r. ⌜ Answers.Answered r (now (out .exit))
+        (Calls.gradientInfNorm (now (system .entry)) (now (counts .entry)) (now (out .entry))) ⌝ }
 {
-    if !((system.len() == 45) & (counts.len() == 3) & (out.len() == 1)) {
-        return memory::lengths();
-    }
-    let s = flat::system(system, counts);
-    let values = [s.scaled_gradient_inf_norm()];
-    memory::answer(Refusal::none(), &values, out)
+    step_calls::system_scaled_gradient_inf_norm(system, counts, out)
 }
 
 // step: 5; out: 1
@@ -100,39 +67,8 @@ pub extern "C" fn pixel_step_system_predicted_reduction(
     point_damping_norm: f64,
     out: &mut [f64],
 ) -> u64
-    ensures { λ r. ⌜ Interface.Answered r (now (out .exit))
-        (Interface.predictedReduction (now (system .entry)) (now (counts .entry)) (now (step .entry)) damping «point_damping_norm» (now (out .entry))) ⌝ }
+    ensures { λ r. ⌜ Answers.Answered r (now (out .exit))
+        (Calls.predictedReduction (now (system .entry)) (now (counts .entry)) (now (step .entry)) damping «point_damping_norm» (now (out .entry))) ⌝ }
 {
-    if !((system.len() == 45) & (counts.len() == 3) & (step.len() == 5) & (out.len() == 1)) {
-        return memory::lengths();
-    }
-    let s = flat::system(system, counts);
-    let p = s.predicted_reduction(memory::vector5(step), damping, point_damping_norm);
-    let refusal = p.refusal;
-    let values = [p.reduction];
-    memory::answer(refusal, &values, out)
-}
-
-// Stores the system where nothing was refused, and answers the refusal's code.
-fn answer(refusal: Refusal, next: ReducedSystem, system: &mut [f64], counts: &mut [u16]) -> u64
-    requires { ⌜ (length (now system) ≡ 45) × (length (now counts) ≡ 3) ⌝ }
-    ensures { λ r. ⌜ (r ≡ Interface.code refusal)
-        × (now (system .exit) ≡ Interface.stored refusal (Flat.systemNumbers next) (now (system .entry)))
-        × (now (counts .exit) ≡ Interface.stored refusal (Flat.systemCounts next) (now (counts .entry))) ⌝ }
-{
-    if !refusal.is_none() {
-        return memory::code(refusal);
-    }
-    let values = flat::system_numbers(next);
-    memory::put(&values, 0, system);
-    counts[0] = next.weak_point_count;
-    counts[1] = next.block_count;
-    counts[2] = flag(next.valid);
-    memory::code(refusal)
-}
-
-fn flag(b: bool) -> u16
-    ensures { λ r. ⌜ r ≡ Flat.flag b ⌝ }
-{
-    if b { 1 } else { 0 }
+    step_calls::system_predicted_reduction(system, counts, step, damping, point_damping_norm, out)
 }

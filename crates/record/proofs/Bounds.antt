@@ -22,13 +22,13 @@ use Rattle.optimizer.specs.Step.{reducedSystem}
 use Rattle.optimizer.proofs.Whole.{checked}
 use Rattle.optimizer.proofs.PointSteps.{weak-at-most, costs-are-numbers}
 use Rattle.hex.specs.Hex.{digits}
-use Rattle.record.specs.Form as Form
+use Rattle.record_form.specs.Form as Form
 use Rattle.record.specs.Run.{column, run, damping}
-use Rattle.record.specs.Text.{space, lineFeed, digit, withoutZeros, decimal, pasted, Put}
-use Rattle.record.specs.Lists.{bitsThen, runLine, letter, pointLine, pointLines, validity, verdict, sumLine, refusedLine, linesOf, refused, list, maxList, NeverNan, Wrote}
-use Rattle.record.proofs.Forms.{formed}
-use Rattle.record.proofs.Puts.{pasted-length}
-use Rattle.record.proofs.Runs.{few-points}
+use Rattle.text.specs.Text.{space, lineFeed, digit, withoutZeros, decimal, pasted, Put}
+use Rattle.lines.specs.Lines.{bitsThen, runLine, letter, pointLine, validity, verdict, sumLine, refusedLine}
+use Rattle.record.specs.Lists.{pointLines, linesOf, refused, list, maxList, NeverNan, Wrote}
+use Rattle.record_form.proofs.Forms.{formed, few-points}
+use Rattle.text.proofs.Puts.{pasted-length}
 
 -- ---- decimals
 

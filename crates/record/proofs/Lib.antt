@@ -1,6 +1,4 @@
--- Laws of text in a buffer, of the record's form and of its list, and that the prefix read decides (`Prefix`).
-pub mod Puts
-pub mod Forms
+-- Laws of the run that a record holds and of its list, and that the prefix read decides (`Prefix`).
 pub mod Runs
 pub mod Listed
 pub mod Bounds

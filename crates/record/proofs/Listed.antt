@@ -11,9 +11,10 @@ use Rattle.optimizer.specs.Problem.{Problem}
 use Rattle.optimizer.specs.Checks as Checks
 use Rattle.optimizer.specs.Step.{reducedSystem, noSystem, reduced}
 use Rattle.optimizer.specs.declared.reduced.Reduced.{Reduced}
-use Rattle.record.specs.Form as Form
+use Rattle.record_form.specs.Form as Form
+use Rattle.lines.specs.Lines.{refusedLine}
 use Rattle.record.specs.Run.{run}
-use Rattle.record.specs.Lists.{refusedLine, linesOf, refused, list}
+use Rattle.record.specs.Lists.{linesOf, refused, list}
 
 -- a system that is refused has the checks' refusal, and one that is not is the run's
 module _ (p : Problem) where
@@ -44,16 +45,16 @@ module _ (r : List ℕ) (v : Refusal) (e : v ≡ Form.refused r) (b : Bool) (f :
   pub form-passed : not b ≡ false → isNone (Form.refused r) ≡ true
   form-passed t = ap isNone (sym e) ∙ sym f ∙ not-false b t
 
-  module _ (t : not b ≡ false) (x : Reduced) (g : x ≡ reduced (run r)) (c : Bool) (h : c ≡ isNone (x .refusal)) where
-    pub run-refused : not c ≡ true → refusedLine (x .refusal) ≡ list r
-    unfolding list refused
-    run-refused u =
-        let n : isNone (x .refusal) ≡ false = sym h ∙ not-true c u in
-        let s : x .refusal ≡ Checks.refused (run r) = ap (λ (y : Reduced). y .refusal) g ∙ refused-system (run r) (ap (λ (y : Reduced). isNone (y .refusal)) (sym g) ∙ n) in
-        rw (form-passed t, ← s, n) refl
+module _ (r : List ℕ) (p : isNone (Form.refused r) ≡ true) (x : Reduced) (g : x ≡ reduced (run r)) (c : Bool) (h : c ≡ isNone (x .refusal)) where
+  pub run-refused : not c ≡ true → refusedLine (x .refusal) ≡ list r
+  unfolding list refused
+  run-refused u =
+      let n : isNone (x .refusal) ≡ false = sym h ∙ not-true c u in
+      let s : x .refusal ≡ Checks.refused (run r) = ap (λ (y : Reduced). y .refusal) g ∙ refused-system (run r) (ap (λ (y : Reduced). isNone (y .refusal)) (sym g) ∙ n) in
+      rw (p, ← s, n) refl
 
-    pub run-listed : not c ≡ false → linesOf r (x .system) ≡ list r
-    unfolding list refused
-    run-listed u =
-        let s = given-system (run r) (ap (λ (y : Reduced). isNone (y .refusal)) (sym g) ∙ sym h ∙ not-false c u) in
-        rw (form-passed t, s .0) (ap (λ (y : Reduced). linesOf r (y .system)) g ∙ ap (λ (y : ReducedSystem). linesOf r y) (s .1))
+  pub run-listed : not c ≡ false → linesOf r (x .system) ≡ list r
+  unfolding list refused
+  run-listed u =
+      let s = given-system (run r) (ap (λ (y : Reduced). isNone (y .refusal)) (sym g) ∙ sym h ∙ not-false c u) in
+      rw (p, s .0) (ap (λ (y : Reduced). linesOf r (y .system)) g ∙ ap (λ (y : ReducedSystem). linesOf r y) (s .1))

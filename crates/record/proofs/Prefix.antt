@@ -11,9 +11,10 @@ use lib.ListN.{length, take}
 use lib.Seq.{take-all, length-take-le}
 use Rattle.refusal.specs.Rows as Rows
 use Rattle.refusal.specs.Refused.{of, isNone}
-use Rattle.record.specs.Form as Form
-use Rattle.record.specs.Form.{maxRecord}
-use Rattle.record.specs.Lists.{refusedLine, refused, list}
+use Rattle.record_form.specs.Form as Form
+use Rattle.record_form.specs.Form.{maxRecord}
+use Rattle.lines.specs.Lines.{refusedLine}
+use Rattle.record.specs.Lists.{refused, list}
 
 too-long : (r : List ℕ) → maxRecord < length r → list r ≡ refusedLine (of Rows.recordTooLong)
 unfolding list refused Form.refused isNone

@@ -1,24 +1,29 @@
 -- The numbers of a record by point and by column, and the lines of its points. Assumes nothing.
 use mathlib.Core.Path.{_≡_, refl, sym, ap, _∙_}
-use mathlib.Core.List.{List}
-use Prim.Native.Nat.{ℕ, zero, suc, _+_, _*_, _/_, _%_, _≤_, _<_}
+use mathlib.Core.List.{List, [], _∷_}
+use Prim.Native.Nat.{ℕ, zero, suc, _+_, _*_, _/_, _%_, _<_}
 use native.Mathlib.Nat.{div-add-mod', mod-lt, mul-comm, mul-le-mul-right}
 use native.Mathlib.Numerals.{add-one}
 use native.Mathlib.Omega.{arith}
 use mathlib.Core.Bool.{Bool, true, false}
 use borrow.Author.Tests.{ltb-true, ltb-false}
 use lib.Dec.{ltb}
+use lib.ListN.{take, drop}
+use lib.Seq.{take-at}
 use lib.Ieee.{Float}
 use Rattle.number.specs.Vectors.{_!_, tabulate}
+use Rattle.number.proofs.Fill.{length-tabulate, filled}
+use Rattle.projection.specs.declared.PinholeCamera.{PinholeCamera}
 use Rattle.linearization.specs.declared.views.Correspondence.{Correspondence}
 use Rattle.linearization.specs.declared.linearize.LocalLinearization.{LocalLinearization}
 use Rattle.optimizer.specs.declared.Rig.{Rig}
 use Rattle.optimizer.specs.Problem.{Problem, problem, correspondenceAt, blockOf, blockAt}
-use Rattle.record.specs.Form.{pointFields, Formed}
-use Rattle.record.specs.Run.{numberAt, rig, damping, column, run, correspondenceOf}
-use Rattle.record.specs.Lists.{letter, pointLine, pointLines}
-use Rattle.record.specs.Text.{Put}
-use Rattle.record.proofs.Puts.{put-none, put-same, put-put}
+use Rattle.record_form.specs.Form.{camera1At, camera2At, poseAt, basisAt, pointFields}
+use Rattle.record.specs.Run.{numberAt, twoAt, threeAt, numbersAt, cameraAt, rig, damping, column, run, correspondenceOf}
+use Rattle.lines.specs.Lines.{letter, pointLine}
+use Rattle.record.specs.Lists.{pointLines}
+use Rattle.text.specs.Text.{Put}
+use Rattle.text.proofs.Puts.{put-none, put-same, put-put}
 
 entry : (n : ℕ) (f : ℕ → Float) (i : ℕ) → i < n → tabulate n f ! i ≡ f i
 entry zero f i h = absurd (omega arith)
@@ -86,6 +91,10 @@ quotient j each n h k = (by (ltb (j / each) n) refl, mod-lt j h)
         let c = mul-comm each n in
         absurd (omega arith)
 
+-- the front of a list that is filled to there
+pub front-filled : (l h : List Float) (f : ℕ → Float) (k n : ℕ) → h ≡ filled l f k → k ≡ n → take n h ≡ tabulate n f
+front-filled l h f k n e g = ap (λ (x : List Float). take n x) (e ∙ ap (λ (m : ℕ). filled l f m) g) ∙ take-at (tabulate n f) (drop n l) n (length-tabulate n f)
+
 -- the four columns, the rig and the damping are the run
 pub run-is : (r : List ℕ) (p v w d : List Float) (x : Rig) (y : Float) (lp lv lw ld : ℕ) → p ≡ tabulate lp (column r 0 3) → lp ≡ 3 * pointFields r → v ≡ tabulate lv (column r 24 2)
     → lv ≡ 2 * pointFields r → w ≡ tabulate lw (column r 40 2) → lw ≡ 2 * pointFields r → d ≡ tabulate ld (column r 56 1) → ld ≡ pointFields r → x ≡ rig r → y ≡ damping r
@@ -93,6 +102,27 @@ pub run-is : (r : List ℕ) (p v w d : List Float) (x : Rig) (y : Float) (lp lv 
 unfolding run
 run-is r p v w d x y lp lv lw ld e₁ e₂ e₃ e₄ e₅ e₆ e₇ e₈ e₉ e = rw (e₁, e₂, e₃, e₄, e₅, e₆, e₇, e₈, e₉, e) refl
 
--- a record of the right form has 512 points at most
-pub few-points : (r : List ℕ) → Formed r → pointFields r ≤ 512
-few-points r f = let e = f .0 in let h = f .1 in omega arith
+-- numbers that were read one by one
+module _ (r : List ℕ) (at : ℕ) where
+  pub two-are : (a b : Float) → a ≡ numberAt r at → b ≡ numberAt r (at + 8) → a ∷ b ∷ [] ≡ twoAt r at
+  two-are a b e f = rw (e, f) refl
+
+  pub three-are : (a b c : Float) → a ≡ numberAt r at → b ≡ numberAt r (at + 8) → c ≡ numberAt r (at + 16) → a ∷ b ∷ c ∷ [] ≡ threeAt r at
+  three-are a b c e f g = rw (e, f, g) refl
+
+  pub camera-is : (fx fy cx cy skew : Float) → fx ≡ numberAt r (at + 3) → fy ≡ numberAt r (at + 11) → cx ≡ numberAt r (at + 19) → cy ≡ numberAt r (at + 27) → skew ≡ numberAt r (at + 35)
+      → _≡_ {A = PinholeCamera} (record { fx = fx; fy = fy; cx = cx; cy = cy; skew = skew }) (cameraAt r at)
+  unfolding cameraAt
+  camera-is fx fy cx cy skew e f g h i = rw (e, f, g, h, i) refl
+
+pub correspondence-is : (r : List ℕ) (i : ℕ) (point view1 view2 : List Float) (deviation : Float) → point ≡ threeAt r (258 + 67 * i) → view1 ≡ twoAt r (258 + 67 * i + 24)
+    → view2 ≡ twoAt r (258 + 67 * i + 40) → deviation ≡ numberAt r (258 + 67 * i + 56)
+    → _≡_ {A = Correspondence} (record { point = point; view1 = view1; view2 = view2; «inverse_deviation» = deviation }) (correspondenceOf r i)
+correspondence-is r i point view1 view2 deviation e f g h = rw (e, f, g, h) refl
+
+-- the numbers of fields 1 to 4 are the rig
+pub rig-is : (r : List ℕ) (x y : PinholeCamera) (rotation translation basis : List Float) (baseline : Float) → x ≡ cameraAt r camera1At → y ≡ cameraAt r camera2At
+    → rotation ≡ numbersAt r (poseAt + 3) 9 → translation ≡ threeAt r (poseAt + 75) → basis ≡ numbersAt r (basisAt + 3) 6 → baseline ≡ numberAt r (basisAt + 51)
+    → _≡_ {A = Rig} (record { camera1 = x; camera2 = y; pose = record { rotation = rotation; translation = translation; basis = basis; baseline = baseline } }) (rig r)
+unfolding rig
+rig-is r x y rotation translation basis baseline e f g h i j = rw (e, f, g, h, i, j) refl

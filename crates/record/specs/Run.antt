@@ -1,5 +1,6 @@
 -- What a record of the right form holds: binary64 payloads, low byte first.
 use Prim.Native.Nat.{ℕ, _+_, _*_, _/_, _%_}
+use mathlib.Core.Path.{_≡_}
 use mathlib.Core.List.{List, [], _∷_, _++_}
 use lib.Ieee.{Float, binary64, ofBits}
 use Rattle.number.specs.Vectors.{tabulate}
@@ -7,7 +8,7 @@ use Rattle.projection.specs.declared.PinholeCamera.{PinholeCamera}
 use Rattle.linearization.specs.declared.views.Correspondence.{Correspondence}
 use Rattle.optimizer.specs.declared.Rig.{Rig}
 use Rattle.optimizer.specs.Problem.{Problem, problem}
-use Rattle.record.specs.Form.{byte, camera1At, camera2At, poseAt, basisAt, dampingAt, pointsAt, pointFields}
+use Rattle.record_form.specs.Form.{byte, camera1At, camera2At, poseAt, basisAt, dampingAt, pointsAt, pointFields, Formed}
 
 -- four bytes, then eight, low byte first
 abbrev pub half : List ℕ → ℕ → ℕ
@@ -25,6 +26,10 @@ twoAt r at = numberAt r at ∷ numberAt r (at + 8) ∷ []
 
 abbrev pub threeAt : List ℕ → ℕ → List Float
 threeAt r at = numberAt r at ∷ numberAt r (at + 8) ∷ numberAt r (at + 16) ∷ []
+
+-- n numbers, one after the other
+abbrev pub numbersAt : List ℕ → ℕ → ℕ → List Float
+numbersAt r at n = tabulate n (λ j. numberAt r (at + 8 * j))
 
 -- by the field's beginning
 unfoldable pub cameraAt : List ℕ → ℕ → PinholeCamera
@@ -50,6 +55,10 @@ rig r = record {
 
 abbrev pub damping : List ℕ → Float
 damping r = numberAt r (dampingAt + 3)
+
+-- a record of the right form, with its rig and its damping
+abbrev pub Read : List ℕ → Rig → Float → Type 0
+Read r x d = Formed r × (x ≡ rig r) × (d ≡ damping r)
 
 -- Numbers of all points as one list: `each` a point, which begin at `first` of the payload.
 unfoldable pub column : List ℕ → ℕ → ℕ → ℕ → Float

@@ -1,12 +1,8 @@
-// The run record and its list: document 01, "Run record and its list".
-mod fields;
-mod lines;
+// The list of a run record, and the run it holds: document 01, "Run record and its list".
 mod list;
-mod reader;
 mod run;
-mod text;
 
-pub use fields::MAX_RECORD;
 pub use list::MAX_LIST;
 pub use list::Written;
 pub use list::write_list;
+pub use record_form::MAX_RECORD;

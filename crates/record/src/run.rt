@@ -1,27 +1,29 @@
 // What a record of the right form holds: numbers of eight bytes, low byte first.
 ghost use mathlib.Core.Path.{_≡_};
 ghost use Prim.Native.Nat.{_≤_, _<_, _*_, _+_, _/_, _%_};
-ghost use lib.ListN.{length};
+ghost use lib.ListN.{length, take};
 ghost use Rattle.number.specs.Vectors as Vectors;
 ghost use Rattle.optimizer.specs.Problem as Problem;
-ghost use Rattle.record.specs.Form as Form;
+ghost use Rattle.record_form.specs.Form as Form;
 ghost use Rattle.record.specs.Run as Run;
-use crate::fields;
 use linearization::Correspondence;
 use linearization::LocalLinearization;
 use linearization::Pose;
 use optimizer::Rig;
 use projection::PinholeCamera;
 
+// The most points of a record
+const MAX_POINTS: usize = 512;
+
 // Four bytes, low byte first
 fn half_at(record: &[u8], at: usize) -> u64
     requires { ⌜ at + 4 ≤ length (now «record») ⌝ }
     ensures { λ r. ⌜ (r ≡ Run.half (now («record» .entry)) at) × (r < 4294967296) ⌝ }
 {
-    let a = fields::byte_at(record, at);
-    let b = fields::byte_at(record, at + 1);
-    let c = fields::byte_at(record, at + 2);
-    let d = fields::byte_at(record, at + 3);
+    let a = record_form::byte_at(record, at);
+    let b = record_form::byte_at(record, at + 1);
+    let c = record_form::byte_at(record, at + 2);
+    let d = record_form::byte_at(record, at + 3);
     a + 256 * b + 65536 * c + 16777216 * d
 }
 
@@ -34,18 +36,29 @@ pub(crate) fn number_at(record: &[u8], at: usize) -> f64
     number::from_bits(low + 4294967296 * high)
 }
 
-// Numbers of all points: `each` a point, which begin at `first` of the payload
-pub(crate) fn read_column(record: &[u8], first: usize, each: usize, out: &mut [f64])
-    requires { ⌜ (0 < each) × (each ≤ 3) × (first + 8 * each ≤ 64) × (length (now out) ≤ each * Form.pointFields (now «record»))
+// `count` numbers of all points, `each` a point, which begin at `first` of the payload; zeros stand behind them
+pub(crate) fn column(
+    record: &[u8],
+    first: usize,
+    each: usize,
+    count: usize,
+) -> [f64; 3 * MAX_POINTS]
+    requires { ⌜ (0 < each) × (each ≤ 3) × (first + 8 * each ≤ 64) × (count ≤ each * Form.pointFields (now «record»)) × (count ≤ 1536)
         × Form.Formed (now «record») ⌝ }
-    ensures { λ _. ⌜ now (out .exit) ≡ Vectors.tabulate (length (now (out .entry))) (Run.column (now («record» .entry)) first each) ⌝ }
+    ensures { λ r. ⌜ take count r ≡ Vectors.tabulate count (Run.column (now («record» .entry)) first each) ⌝ }
 {
-    for j in 0..out.len() {
-        out[j] = number_at(
+    let mut numbers = [0.0; 3 * MAX_POINTS];
+    for j in 0..count {
+        numbers[j] = number_at(
             record,
-            fields::POINTS_AT + 3 + first + fields::POINT_SIZE * (j / each) + 8 * (j % each),
+            record_form::POINTS_AT
+                + 3
+                + first
+                + record_form::POINT_SIZE * (j / each)
+                + 8 * (j % each),
         );
     }
+    numbers
 }
 
 fn camera_at(record: &[u8], at: usize) -> PinholeCamera
@@ -79,24 +92,33 @@ fn two_at(record: &[u8], at: usize) -> [f64; 2]
     [number_at(record, at), number_at(record, at + 8)]
 }
 
+// Numbers one after the other
+fn numbers_at(record: &[u8], at: usize, out: &mut [f64])
+    requires { ⌜ at + 8 * length (now out) ≤ length (now «record») ⌝ }
+    ensures { λ _. ⌜ now (out .exit) ≡ Run.numbersAt (now («record» .entry)) at (length (now (out .entry))) ⌝ }
+{
+    for j in 0..out.len() {
+        out[j] = number_at(record, at + 8 * j);
+    }
+}
+
 pub(crate) fn rig_of(record: &[u8]) -> Rig
     requires { ⌜ Form.pointsAt ≤ length (now «record») ⌝ }
     ensures { λ r. ⌜ r ≡ Run.rig (now («record» .entry)) ⌝ }
 {
-    let a = three_at(record, fields::POSE_AT + 3);
-    let b = three_at(record, fields::POSE_AT + 27);
-    let c = three_at(record, fields::POSE_AT + 51);
-    let u = three_at(record, fields::BASIS_AT + 3);
-    let v = three_at(record, fields::BASIS_AT + 27);
+    let mut rotation = [0.0; 9];
+    numbers_at(record, record_form::POSE_AT + 3, &mut rotation);
+    let mut basis = [0.0; 6];
+    numbers_at(record, record_form::BASIS_AT + 3, &mut basis);
     let pose = Pose {
-        rotation: [a[0], a[1], a[2], b[0], b[1], b[2], c[0], c[1], c[2]],
-        translation: three_at(record, fields::POSE_AT + 75),
-        basis: [u[0], u[1], u[2], v[0], v[1], v[2]],
-        baseline: number_at(record, fields::BASIS_AT + 51),
+        rotation,
+        translation: three_at(record, record_form::POSE_AT + 75),
+        basis,
+        baseline: number_at(record, record_form::BASIS_AT + 51),
     };
     Rig {
-        camera1: camera_at(record, fields::CAMERA1_AT),
-        camera2: camera_at(record, fields::CAMERA2_AT),
+        camera1: camera_at(record, record_form::CAMERA1_AT),
+        camera2: camera_at(record, record_form::CAMERA2_AT),
         pose,
     }
 }
@@ -105,7 +127,7 @@ fn correspondence_at(record: &[u8], i: usize) -> Correspondence
     requires { ⌜ (i < Form.pointFields (now «record»)) × Form.Formed (now «record») ⌝ }
     ensures { λ r. ⌜ r ≡ Run.correspondenceOf (now («record» .entry)) i ⌝ }
 {
-    let at = fields::POINTS_AT + 3 + fields::POINT_SIZE * i;
+    let at = record_form::POINTS_AT + 3 + record_form::POINT_SIZE * i;
     Correspondence {
         point: three_at(record, at),
         view1: two_at(record, at + 24),

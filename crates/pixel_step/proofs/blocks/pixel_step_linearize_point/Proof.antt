@@ -5,9 +5,9 @@ use Rattle.linearization.specs.Linearize as Linearize
 use Rattle.linearization.specs.declared.views.Correspondence.{Correspondence}
 use Rattle.linearization.specs.declared.linearize.LocalLinearization.{LocalLinearization}
 use Rattle.optimizer.specs.declared.Rig.{Rig}
-use Rattle.pixel_step.specs.Flat.{rig, blockNumbers}
+use Rattle.flat.specs.Flat.{rig, blockNumbers}
 use Rattle.pixel_step.specs.Interface.{linearizePoint}
-use Rattle.pixel_step.proofs.Laws.{too-short, answers, three-fit}
+use Rattle.flat.proofs.Laws.{too-short, answers, three-fit}
 use borrow.Author.Needs.{needs}
 use Rattle.pixel_step.proofs.blocks.pixel_step_linearize_point.Statement.{statement}
 use Rattle.pixel_step.proofs.blocks.pixel_step_linearize_point.Tie as tie
@@ -23,25 +23,17 @@ returns : tie.Need-returns
 unfolding linearizePoint
 returns c = too-short _ _ _ _ _ (c .before .if1 .taken) (c .lengths .ensures)
 
-rig-requires : tie.Need-rig-requires
-rig-requires c κs = fit c .0
-
-correspondence-requires : tie.Need-correspondence-requires
-correspondence-requires c κs = fit (c .before .before .before .before) .1
-
-answer-requires : tie.Need-answer-requires
-answer-requires c κs = sized c ∙ sym (fit (c .before .before .before .before .before .before .before .before .before .before) .2)
-
 returns-2 : tie.Need-returns-2
 unfolding linearizePoint
 returns-2 c =
+    let f = fit (c .before .before .before .before .before .before .before .before .before .before .before .before .before) in
     let g = c .before .before .before .before .before .before .before .before .before .before .before .before .rig in
     let d = c .before .before .before .before .before .before .before .before .correspondence in
     let e =
     c .before .before .before .before .before .before .before .linearize-point .ensures
-    ∙ ap (λ (x : Rig). Linearize.linearizePoint (x .camera1) (x .camera2) (x .pose) (d .result)) (g .ensures)
-    ∙ ap (λ (x : Correspondence). Linearize.linearizePoint (rig (c .before .before .before .before .before .before .before .before .before .before .before .before .before .before .before .before .before .args .rig .now) .camera1) (rig (c .before .before .before .before .before .before .before .before .before .before .before .before .before .before .before .before .before .args .rig .now) .camera2) (rig (c .before .before .before .before .before .before .before .before .before .before .before .before .before .before .before .before .before .args .rig .now) .pose) x) (d .ensures) in
-    answers _ _ _ _ _ _ _ _ (c .before .before .before .before .before .before .before .before .before .before .before .before .before .if1 .left) (ap (λ (b : LocalLinearization). b .refusal) e) (c .before .before .before .before .before .block-numbers .ensures ∙ ap blockNumbers e) (c .before .before .answer .ensures)
+    ∙ ap (λ (x : Rig). Linearize.linearizePoint (x .camera1) (x .camera2) (x .pose) (d .result)) (g .ensures (f .0))
+    ∙ ap (λ (x : Correspondence). Linearize.linearizePoint (rig (c .before .before .before .before .before .before .before .before .before .before .before .before .before .before .before .before .before .args .rig .now) .camera1) (rig (c .before .before .before .before .before .before .before .before .before .before .before .before .before .before .before .before .before .args .rig .now) .camera2) (rig (c .before .before .before .before .before .before .before .before .before .before .before .before .before .before .before .before .before .args .rig .now) .pose) x) (d .ensures (f .1)) in
+    answers _ _ _ _ _ _ _ _ (c .before .before .before .before .before .before .before .before .before .before .before .before .before .if1 .left) (ap (λ (b : LocalLinearization). b .refusal) e) (c .before .before .before .before .before .block-numbers .ensures ∙ ap blockNumbers e) (sized (c .before .before .before) ∙ sym (f .2)) (c .before .before .answer .ensures)
 
 pub pixel-step-linearize-point-spec : {M : Type 1} → statement M
 pixel-step-linearize-point-spec =
@@ -49,11 +41,11 @@ pixel-step-linearize-point-spec =
     (tie.spec
     (λ c κs. search needs)
     returns
-    rig-requires
-    correspondence-requires
+    (λ c κs. search needs)
+    (λ c κs. search needs)
     (λ c κs. search needs)
     (λ c κs. search needs)
     (λ c. search needs)
-    answer-requires
+    (λ c κs. search needs)
     (λ c. search needs)
     returns-2)

@@ -1,13 +1,13 @@
 -- `pixel_step::point_blocks::pixel_step_factor_new` meets its contract. Assumes nothing.
 use mathlib.Core.Path.{_≡_, sym, ap, _∙_}
-use mathlib.Core.List.{List, [], _∷_}
+use mathlib.Core.List.{List}
 use lib.ListN.{length}
 use lib.Ieee.{Float}
 use Rattle.point_block.specs.Lone as Lone
 use Rattle.point_block.specs.declared.LoneFactor.{LoneFactor}
-use Rattle.number.specs.Vectors.{_!_}
+use Rattle.flat.specs.Flat.{factorNumbers}
 use Rattle.pixel_step.specs.Interface.{loneFactor}
-use Rattle.pixel_step.proofs.Laws.{too-short, answers, two-fit}
+use Rattle.flat.proofs.Laws.{whole, too-short, answers, two-fit}
 use borrow.Author.Needs.{needs}
 use Rattle.pixel_step.proofs.point_blocks.pixel_step_factor_new.Statement.{statement}
 use Rattle.pixel_step.proofs.point_blocks.pixel_step_factor_new.Tie as tie
@@ -15,23 +15,22 @@ use Rattle.pixel_step.proofs.point_blocks.pixel_step_factor_new.Tie as 
 fit : (c : tie.Else1) → (length (c .before .before .before .args .matrix .now) ≡ 9) × (length (c .before .before .before .args .out .now) ≡ 7)
 fit c = two-fit (length (c .before .before .before .args .matrix .now)) (length (c .before .before .before .args .out .now)) 9 7 (c .if1 .left)
 
+-- the array has its length
+sized : (c : tie.After-answer-arg) → length (c .before .before .factor-numbers .result) ≡ 7
+sized c = search needs
+
 returns : tie.Need-returns
 unfolding loneFactor
 returns c = too-short _ _ _ _ _ (c .before .if1 .taken) (c .lengths .ensures)
 
-vector9-requires : tie.Need-vector9-requires
-vector9-requires c κs = fit c .0
-
-answer-requires : tie.Need-answer-requires
-answer-requires c κs = sym (fit (c .before .before .before .before .before .before) .1)
-
 returns-2 : tie.Need-returns-2
 unfolding loneFactor
 returns-2 c =
+    let f = fit (c .before .before .before .before .before .before .before .before .before) in
     let a = c .before .before in
     let start = a .before .before .before .before .before .before .before .before .before .before in
-    let e = a .before .before .before .before .before .new .ensures ∙ ap (λ (m : List Float). Lone.loneFactor m (start .args .damping)) (a .before .before .before .before .before .before .vector9 .ensures) in
-    answers _ _ _ _ _ _ _ _ (a .before .before .before .before .before .before .before .if1 .left) (ap (λ (d : LoneFactor). d .refusal) e) (ap (λ (d : LoneFactor). d .inverse ! 0 ∷ d .inverse ! 1 ∷ d .inverse ! 2 ∷ d .inverse ! 3 ∷ d .inverse ! 4 ∷ d .inverse ! 5 ∷ d .rcond ∷ []) e) (a .answer .ensures)
+    let e = a .before .before .before .before .before .new .ensures ∙ ap (λ (m : List Float). Lone.loneFactor m (start .args .damping)) (whole _ 9 _ (f .0) (a .before .before .before .before .before .before .vector9 .ensures)) in
+    answers _ _ _ _ _ _ _ _ (a .before .before .before .before .before .before .before .if1 .left) (ap (λ (d : LoneFactor). d .refusal) e) (c .before .before .before .before .before .factor-numbers .ensures ∙ ap (λ (p : LoneFactor). factorNumbers p) e) (sized (c .before .before .before) ∙ sym (f .1)) (a .answer .ensures)
 
 pub pixel-step-factor-new-spec : {M : Type 1} → statement M
 pixel-step-factor-new-spec =
@@ -39,15 +38,10 @@ pixel-step-factor-new-spec =
     (tie.spec
     (λ c κs. search needs)
     returns
-    vector9-requires
+    (λ c κs. search needs)
+    (λ c κs. search needs)
     (λ c κs. search needs)
     (λ c. search needs)
-    (λ c. search needs)
-    (λ c. search needs)
-    (λ c. search needs)
-    (λ c. search needs)
-    (λ c. search needs)
-    (λ c. search needs)
-    answer-requires
+    (λ c κs. search needs)
     (λ c. search needs)
     returns-2)

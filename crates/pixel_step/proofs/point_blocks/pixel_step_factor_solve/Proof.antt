@@ -5,7 +5,7 @@ use lib.ListN.{length}
 use lib.Ieee.{Float}
 use Rattle.point_block.specs.Factor as Factor
 use Rattle.pixel_step.specs.Interface.{factorSolve}
-use Rattle.pixel_step.proofs.Laws.{too-short, answers, three-fit}
+use Rattle.flat.proofs.Laws.{whole, too-short, answers, three-fit}
 use borrow.Author.Needs.{needs}
 use Rattle.pixel_step.proofs.point_blocks.pixel_step_factor_solve.Statement.{statement}
 use Rattle.pixel_step.proofs.point_blocks.pixel_step_factor_solve.Tie as tie
@@ -21,25 +21,17 @@ returns : tie.Need-returns
 unfolding factorSolve
 returns c = too-short _ _ _ _ _ (c .before .if1 .taken) (c .lengths .ensures)
 
-vector6-requires : tie.Need-vector6-requires
-vector6-requires c κs = fit c .0
-
-vector3-requires : tie.Need-vector3-requires
-vector3-requires c κs = fit (c .before .before) .1
-
-answer-requires : tie.Need-answer-requires
-answer-requires c κs = sized c ∙ sym (fit (c .before .before .before .before .before .before .before) .2)
-
 returns-2 : tie.Need-returns-2
 unfolding factorSolve
 returns-2 c =
+    let f = fit (c .before .before .before .before .before .before .before .before .before .before) in
     let a = c .before .before in
     let start = a .before .before .before .before .before .before .before .before .before .before .before .before in
     let e =
     a .before .before .before .before .solve .ensures
-    ∙ ap (λ (m : List Float). Factor.solve m (a .before .before .before .before .before .vector3 .result)) (a .before .before .before .before .before .before .before .vector6 .ensures)
-    ∙ ap (λ (m : List Float). Factor.solve (start .args .inverse .now) m) (a .before .before .before .before .before .vector3 .ensures) in
-    answers _ _ _ _ _ _ _ _ (a .before .before .before .before .before .before .before .before .if1 .left) (a .before .before .before .none2 .ensures) e (a .answer .ensures)
+    ∙ ap (λ (m : List Float). Factor.solve m (a .before .before .before .before .before .vector3 .result)) (whole (start .args .inverse .now) 6 _ (f .0) (a .before .before .before .before .before .before .before .vector6 .ensures))
+    ∙ ap (λ (m : List Float). Factor.solve (start .args .inverse .now) m) (whole (start .args .x .now) 3 _ (f .1) (a .before .before .before .before .before .vector3 .ensures)) in
+    answers _ _ _ _ _ _ _ _ (a .before .before .before .before .before .before .before .before .if1 .left) (a .before .before .before .none2 .ensures) e (sized (a .before) ∙ sym (f .2)) (a .answer .ensures)
 
 pub pixel-step-factor-solve-spec : {M : Type 1} → statement M
 pixel-step-factor-solve-spec =
@@ -47,12 +39,12 @@ pixel-step-factor-solve-spec =
     (tie.spec
     (λ c κs. search needs)
     returns
-    vector6-requires
     (λ c κs. search needs)
-    vector3-requires
+    (λ c κs. search needs)
+    (λ c κs. search needs)
     (λ c κs. search needs)
     (λ c κs. search needs)
     (λ c. search needs)
-    answer-requires
+    (λ c κs. search needs)
     (λ c. search needs)
     returns-2)

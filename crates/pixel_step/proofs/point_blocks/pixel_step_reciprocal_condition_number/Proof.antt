@@ -5,7 +5,7 @@ use lib.ListN.{length}
 use lib.Ieee.{Float}
 use Rattle.point_block.specs.Condition as Condition
 use Rattle.pixel_step.specs.Interface.{reciprocalConditionNumber}
-use Rattle.pixel_step.proofs.Laws.{too-short, answers, three-fit}
+use Rattle.flat.proofs.Laws.{whole, too-short, answers, three-fit}
 use borrow.Author.Needs.{needs}
 use Rattle.pixel_step.proofs.point_blocks.pixel_step_reciprocal_condition_number.Statement.{
   statement,
@@ -19,25 +19,17 @@ returns : tie.Need-returns
 unfolding reciprocalConditionNumber
 returns c = too-short _ _ _ _ _ (c .before .if1 .taken) (c .lengths .ensures)
 
-vector6-requires : tie.Need-vector6-requires
-vector6-requires c κs = fit c .0
-
-vector9-requires : tie.Need-vector9-requires
-vector9-requires c κs = fit (c .before .before) .1
-
-answer-requires : tie.Need-answer-requires
-answer-requires c κs = sym (fit (c .before .before .before .before .before .before .before) .2)
-
 returns-2 : tie.Need-returns-2
 unfolding reciprocalConditionNumber
 returns-2 c =
+    let f = fit (c .before .before .before .before .before .before .before .before .before .before) in
     let a = c .before .before in
     let start = a .before .before .before .before .before .before .before .before .before .before .before .before in
     let e =
     a .before .before .before .before .reciprocal-condition-number .ensures
-    ∙ ap (λ (m : List Float). Condition.reciprocalConditionNumber m (a .before .before .before .before .before .vector9 .result)) (a .before .before .before .before .before .before .before .vector6 .ensures)
-    ∙ ap (λ (m : List Float). Condition.reciprocalConditionNumber (start .args .inverse .now) m) (a .before .before .before .before .before .vector9 .ensures) in
-    answers _ _ _ _ _ _ _ _ (a .before .before .before .before .before .before .before .before .if1 .left) (a .before .before .before .none2 .ensures) (ap (λ (x : Float). x ∷ []) e) (a .answer .ensures)
+    ∙ ap (λ (m : List Float). Condition.reciprocalConditionNumber m (a .before .before .before .before .before .vector9 .result)) (whole _ 6 _ (f .0) (a .before .before .before .before .before .before .before .vector6 .ensures))
+    ∙ ap (λ (m : List Float). Condition.reciprocalConditionNumber (start .args .inverse .now) m) (whole _ 9 _ (f .1) (a .before .before .before .before .before .vector9 .ensures)) in
+    answers _ _ _ _ _ _ _ _ (a .before .before .before .before .before .before .before .before .if1 .left) (a .before .before .before .none2 .ensures) (ap (λ (x : Float). x ∷ []) e) (sym (f .2)) (a .answer .ensures)
 
 pub pixel-step-reciprocal-condition-number-spec : {M : Type 1} → statement M
 pixel-step-reciprocal-condition-number-spec =
@@ -45,12 +37,12 @@ pixel-step-reciprocal-condition-number-spec =
     (tie.spec
     (λ c κs. search needs)
     returns
-    vector6-requires
     (λ c κs. search needs)
-    vector9-requires
+    (λ c κs. search needs)
+    (λ c κs. search needs)
     (λ c κs. search needs)
     (λ c κs. search needs)
     (λ c. search needs)
-    answer-requires
+    (λ c κs. search needs)
     (λ c. search needs)
     returns-2)

@@ -6,7 +6,7 @@ use lib.Ieee.{Float}
 use Rattle.solver.specs.Solver as Solver
 use Rattle.solver.specs.declared.Solved.{Solved}
 use Rattle.pixel_step.specs.Interface.{solvePositiveDefinite}
-use Rattle.pixel_step.proofs.Laws.{too-short, answers, three-fit}
+use Rattle.flat.proofs.Laws.{whole, too-short, answers, three-fit}
 use borrow.Author.Needs.{needs}
 use Rattle.pixel_step.proofs.solvers.pixel_step_solve_positive_definite.Statement.{
   statement,
@@ -24,25 +24,17 @@ returns : tie.Need-returns
 unfolding solvePositiveDefinite
 returns c = too-short _ _ _ _ _ (c .before .if1 .taken) (c .lengths .ensures)
 
-vector25-requires : tie.Need-vector25-requires
-vector25-requires c κs = fit c .0
-
-vector5-requires : tie.Need-vector5-requires
-vector5-requires c κs = fit (c .before) .1
-
-answer-requires : tie.Need-answer-requires
-answer-requires c κs = sized c ∙ sym (fit (c .before .before .before .before .before .before .before) .2)
-
 returns-2 : tie.Need-returns-2
 unfolding solvePositiveDefinite
 returns-2 c =
+    let f = fit (c .before .before .before .before .before .before .before .before .before .before) in
     let a = c .before .before in
     let start = a .before .before .before .before .before .before .before .before .before .before .before .before in
     let e =
     a .before .before .before .before .before .solve-positive-definite .ensures
-    ∙ ap (λ (m : List Float). Solver.solvePositiveDefinite m (a .before .before .before .before .before .before .vector5 .result)) (a .before .before .before .before .before .before .before .vector25 .ensures)
-    ∙ ap (λ (m : List Float). Solver.solvePositiveDefinite (start .args .a .now) m) (a .before .before .before .before .before .before .vector5 .ensures) in
-    answers _ _ _ _ _ _ _ _ (a .before .before .before .before .before .before .before .before .if1 .left) (ap (λ (d : Solved). d .refusal) e) (ap (λ (d : Solved). d .x) e) (a .answer .ensures)
+    ∙ ap (λ (m : List Float). Solver.solvePositiveDefinite m (a .before .before .before .before .before .before .vector5 .result)) (whole _ 25 _ (f .0) (a .before .before .before .before .before .before .before .vector25 .ensures))
+    ∙ ap (λ (m : List Float). Solver.solvePositiveDefinite (start .args .a .now) m) (whole _ 5 _ (f .1) (a .before .before .before .before .before .before .vector5 .ensures)) in
+    answers _ _ _ _ _ _ _ _ (a .before .before .before .before .before .before .before .before .if1 .left) (ap (λ (d : Solved). d .refusal) e) (ap (λ (d : Solved). d .x) e) (sized (a .before) ∙ sym (f .2)) (a .answer .ensures)
 
 pub pixel-step-solve-positive-definite-spec : {M : Type 1} → statement M
 pixel-step-solve-positive-definite-spec =
@@ -50,10 +42,10 @@ pixel-step-solve-positive-definite-spec =
     (tie.spec
     (λ c κs. search needs)
     returns
-    vector25-requires
-    vector5-requires
+    (λ c κs. search needs)
+    (λ c κs. search needs)
     (λ c κs. search needs)
     (λ c. search needs)
-    answer-requires
+    (λ c κs. search needs)
     (λ c. search needs)
     returns-2)

@@ -1,12 +1,14 @@
 -- `record::list::put_lines` meets its contract. Assumes nothing.
-use mathlib.Core.Path.{_≡_, ap, _∙_}
+use mathlib.Core.Path.{ap, _∙_}
 use mathlib.Core.List.{_++_}
-use Rattle.record.specs.Run.{run, damping}
-use Rattle.record.specs.Lists.{pointLines, sumLine, runLine, linesOf}
-use Rattle.record.specs.Form.{pointFields}
-use Rattle.record.proofs.Puts.{put-put, put-same}
 use Prim.Native.Nat.{ℕ}
 use lib.Ieee.{Float}
+use Rattle.record_form.specs.Form.{pointFields}
+use Rattle.text.proofs.Puts.{put-put, put-same}
+use Rattle.record.specs.Run as Run
+use Rattle.record.specs.Run.{damping}
+use Rattle.lines.specs.Lines.{runLine}
+use Rattle.record.specs.Lists.{pointLines, linesOf}
 use native.Mathlib.Omega.{arith}
 use borrow.Author.Needs.{needs}
 use Rattle.record.proofs.list.put_lines.Statement.{statement}
@@ -18,19 +20,22 @@ same-length c = search needs
 returns : tie.Need-returns
 unfolding linesOf
 returns c =
-    let s = c .before .before .before .before .before .before .before .before .before .before .before .before .before .before .before .before in
-    let r = s .args .«record» .now in
-    let e : runLine (c .before .before .before .before .before .before .before .before .before .before .before .before .before .point-fields .result) (c .before .before .before .before .before .before .before .before .before .before .before .before .number-at .result) ≡ runLine (pointFields r) (damping r) = ap (λ (n : ℕ). runLine n (c .before .before .before .before .before .before .before .before .before .before .before .before .number-at .result)) (c .before .before .before .before .before .before .before .before .before .before .before .before .before .point-fields .ensures) ∙ ap (λ (d : Float). runLine (pointFields r) d) (c .before .before .before .before .before .before .before .before .before .before .before .before .number-at .ensures) in
-    put-put (runLine (pointFields r) (damping r) ++ pointLines (run r) (pointFields r)) (sumLine (s .args .system)) 0 (s .args .out .now) _ _ _ _
-    (put-put (runLine (pointFields r) (damping r)) (pointLines (run r) (pointFields r)) 0 (s .args .out .now) _ _ _ _
-    (put-same _ _ 0 (s .args .out .now) _ _ e (c .before .before .before .before .before .before .before .before .before .before .put-run .ensures)) (c .before .before .before .before .before .before .put-points .ensures)) (c .before .before .put-sum .ensures)
+    let sum = c .before .before in
+    let points = sum .before .before .before .before in
+    let run = points .before .before .before .before in
+    let fields = run .before .before in
+    let start = fields .before .before .before in
+    let r = start .args .«record» .now in
+    let e = ap (λ (n : ℕ). runLine n (start .args .damping)) (fields .point-fields .ensures) ∙ ap (λ (d : Float). runLine (pointFields r) d) (start .pre .2) in
+    let out = start .args .out .now in
+    let head = runLine (pointFields r) (damping r) in
+    let body = pointLines (Run.run r) (pointFields r) in
+    put-put (head ++ body) _ 0 out _ _ _ _ (put-put head body 0 out _ _ _ _ (put-same _ head 0 out _ _ e (run .put-run .ensures)) (points .put-points .ensures)) (sum .put-sum .ensures)
 
 pub put-lines-spec : {M : Type 1} → statement M
 put-lines-spec =
     tie.close
     (tie.spec
-    (λ c κs. search needs)
-    (λ c. omega arith)
     (λ c κs. search needs)
     (λ c. omega arith)
     (λ c κs. search needs)

@@ -1,9 +1,9 @@
 -- `record::list::put_points` meets its contract. Assumes nothing.
-use Rattle.record.proofs.Puts.{put-same}
-use Rattle.record.specs.Form.{pointFields}
+use Rattle.text.proofs.Puts.{put-same}
+use Rattle.record_form.specs.Form.{pointFields}
 use Rattle.record.specs.Run.{run}
 use Rattle.record.specs.Lists.{pointLines}
-use Rattle.record.specs.Text.{Put}
+use Rattle.text.specs.Text.{Put}
 use Rattle.record.proofs.Runs.{next-line, no-lines}
 use lib.ListN.{length}
 use mathlib.Core.Path.{ap, _∙_, _≡_, refl}
@@ -27,7 +27,8 @@ loop-again c =
     let l = c .before .before .before .before .before .before .before in
     let m = c .before .before in
     let k : length (m .put-point .last .0) ≡ length (l .loop .out) = search needs in
-    (omega arith, l .loop .inv .1, k ∙ l .loop .inv .2, next-line _ (l .loop .i) (omega arith) _ _ _ _ _ _ (l .loop .inv .3) _ (l .before .before .before .rig-of .ensures) _ (m .before .before .before .block-at .ensures) _ (l .before .before .number-at .ensures) _ (m .before .before .letter .ensures) (m .put-point .ensures))
+    let read = l .before .before .before .before .pre in
+    (omega arith, l .loop .inv .1, k ∙ l .loop .inv .2, next-line _ (l .loop .i) (omega arith) _ _ _ _ _ _ (l .loop .inv .3) _ (read .1) _ (m .before .before .before .block-at .ensures) _ (read .2) _ (m .before .before .letter .ensures) (m .put-point .ensures))
 
 same-length : tie.Need-same-length Inv-loop μ-loop
 same-length c = c .before .loop .inv .2
@@ -35,7 +36,7 @@ same-length c = c .before .loop .inv .2
 returns : tie.Need-returns Inv-loop μ-loop
 returns c =
     let l = c .before in
-    let r = l .before .before .before .before .before .before .args .«record» .now in
+    let r = l .before .before .before .before .args .«record» .now in
     let n : l .loop .i ≡ pointFields r = omega arith in
     put-same _ _ _ _ _ _ (ap (λ (k : ℕ). pointLines (run r) k) n) (l .loop .inv .3)
 
@@ -45,9 +46,6 @@ put-points-spec =
     (tie.spec
     Inv-loop
     μ-loop
-    (λ c κs. search needs)
-    (λ c. omega arith)
-    (λ c κs. search needs)
     (λ c κs. search needs)
     loop-holds
     (λ c κs. search needs)

@@ -1,4 +1,6 @@
 -- `record::run::block_at` meets its contract. Assumes nothing.
+use mathlib.Core.Path.{ap, _∙_}
+use Rattle.linearization.specs.declared.views.Correspondence.{Correspondence}
 use Rattle.optimizer.specs.Problem.{blockOf}
 use borrow.Author.Needs.{needs}
 use Rattle.record.proofs.run.block_at.Statement.{statement}
@@ -6,7 +8,9 @@ use Rattle.record.proofs.run.block_at.Tie as tie
 
 returns : tie.Need-returns
 unfolding blockOf
-returns c = cc
+returns c =
+    let read = c .before in
+    c .linearize-point .ensures ∙ ap (λ (x : Correspondence). blockOf (read .before .before .before .before .before .args .rig) x) (read .correspondence-at .ensures)
 
 pub block-at-spec : {M : Type 1} → statement M
 block-at-spec =

@@ -1,11 +1,11 @@
 -- `record::run::correspondence_at` meets its contract. Assumes nothing.
+use Rattle.record.proofs.Runs.{correspondence-is}
 use native.Mathlib.Omega.{arith}
-use borrow.Author.Needs.{needs}
 use Rattle.record.proofs.run.correspondence_at.Statement.{statement}
 use Rattle.record.proofs.run.correspondence_at.Tie as tie
 
 returns : tie.Need-returns
-returns c = cc
+returns c = correspondence-is _ _ _ _ _ _ (c .before .before .before .three-at .ensures) (c .before .before .two-at .ensures) (c .before .two-at2 .ensures) (c .number-at .ensures)
 
 pub correspondence-at-spec : {M : Type 1} → statement M
 correspondence-at-spec =
@@ -14,11 +14,11 @@ correspondence-at-spec =
     (λ c. omega arith)
     (λ c. omega arith)
     (λ c. omega arith)
-    (λ c κs. search needs)
+    (λ c κs. omega arith)
     (λ c. omega arith)
-    (λ c κs. search needs)
+    (λ c κs. omega arith)
     (λ c. omega arith)
-    (λ c κs. search needs)
+    (λ c κs. omega arith)
     (λ c. omega arith)
-    (λ c κs. search needs)
+    (λ c κs. omega arith)
     returns)

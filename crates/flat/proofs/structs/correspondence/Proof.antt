@@ -1,0 +1,18 @@
+-- `flat::structs::correspondence` meets its contract. Assumes nothing.
+use Rattle.flat.proofs.Laws.{correspondence-of}
+use borrow.Author.Needs.{needs}
+use Rattle.flat.proofs.structs.correspondence.Statement.{statement}
+use Rattle.flat.proofs.structs.correspondence.Tie as tie
+
+returns : tie.Need-returns
+returns c = correspondence-of _ _ _ _ _ (c .before .before .before .vector3 .ensures) (c .before .before .vector2 .ensures) (c .before .vector22 .ensures) (c .number .ensures)
+
+pub correspondence-spec : {M : Type 1} → statement M
+correspondence-spec =
+    tie.close
+    (tie.spec
+    (λ c κs. search needs)
+    (λ c κs. search needs)
+    (λ c κs. search needs)
+    (λ c κs. search needs)
+    returns)

@@ -1,0 +1,108 @@
+-- The structs of the calls as flat lists of numbers, and back.
+use Prim.Native.Nat.{ℕ, _-_}
+use mathlib.Core.Bool.{Bool, not, cond}
+use mathlib.Core.List.{List, [], _∷_, _++_}
+use lib.Dec.{eqb}
+use lib.ListN.{length, getD, take, drop}
+use lib.Seq.{paste}
+use lib.Ieee.{Float}
+use Rattle.number.specs.Vectors.{_!_}
+use Rattle.refusal.specs.Refused.{none}
+use Rattle.projection.specs.declared.PinholeCamera.{PinholeCamera}
+use Rattle.projection.specs.declared.Projected.{Projected}
+use Rattle.point_block.specs.declared.LoneFactor.{LoneFactor}
+use Rattle.linearization.specs.declared.views.Correspondence.{Correspondence}
+use Rattle.linearization.specs.declared.linearize.LocalLinearization.{LocalLinearization}
+use Rattle.linearization.specs.declared.views.Pose.{Pose}
+use Rattle.schur.specs.declared.system.ReducedSystem.{ReducedSystem}
+use Rattle.point_step.specs.declared.PointStep.{PointStep}
+use Rattle.optimizer.specs.declared.Rig.{Rig}
+use Rattle.optimizer.specs.declared.StepResult.{StepResult}
+
+-- the numbers from one place up to another
+abbrev pub part : ℕ → ℕ → List Float → List Float
+part start end x = take (end - start) (drop start x)
+
+-- `out` with the values in it, from `start` on
+unfoldable pub put : List Float → ℕ → List Float → List Float
+put values start out = paste out start values (length values)
+
+abbrev pub camera : List Float → PinholeCamera
+camera x = record { fx = x ! 0; fy = x ! 1; cx = x ! 2; cy = x ! 3; skew = x ! 4 }
+
+unfoldable pub pose : List Float → Pose
+pose x = record { rotation = part 0 9 x; translation = part 9 12 x; basis = part 12 18 x; baseline = x ! 18 }
+
+-- camera 1 and 2, rotation, translation, basis, baseline
+unfoldable pub rig : List Float → Rig
+rig x = record { camera1 = camera (part 0 5 x); camera2 = camera (part 5 10 x); pose = pose (part 10 29 x) }
+
+unfoldable pub correspondence : List Float → Correspondence
+correspondence x = record { point = part 0 3 x; view1 = part 3 5 x; view2 = part 5 7 x; «inverse_deviation» = x ! 7 }
+
+unfoldable pub block : List Float → LocalLinearization
+block x = record {
+  «pose_hessian» = part 0 25 x;
+  «cross_hessian» = part 25 40 x;
+  «point_hessian» = part 40 49 x;
+  «pose_gradient» = part 49 54 x;
+  «point_gradient» = part 54 57 x;
+  cost = x ! 57;
+  «squared_residual» = x ! 58;
+  refusal = none;
+}
+
+unfoldable pub blockNumbers : LocalLinearization → List Float
+blockNumbers b =
+    b .«pose_hessian» ++ b .«cross_hessian» ++ b .«point_hessian» ++ b .«pose_gradient» ++ b .«point_gradient» ++ (b .cost ∷ b .«squared_residual» ∷ [])
+
+-- from 45 numbers, and the weak count, the block count and the flag, which is false where it is 0
+unfoldable pub system : List Float → List ℕ → ReducedSystem
+system x counts = record {
+  hessian = part 0 25 x;
+  gradient = part 25 30 x;
+  cost = x ! 30;
+  «squared_residual» = x ! 31;
+  «full_pose_gradient» = part 32 37 x;
+  «pose_diagonal» = part 37 42 x;
+  «point_model_reduction» = x ! 42;
+  «scaled_point_gradient_inf_norm» = x ! 43;
+  «weak_point_count» = getD counts 0 0;
+  «minimum_point_rcond» = x ! 44;
+  valid = not (eqb (getD counts 2 0) 0);
+  «block_count» = getD counts 1 0;
+}
+
+unfoldable pub systemNumbers : ReducedSystem → List Float
+systemNumbers s =
+    s .hessian ++ s .gradient ++ (s .cost ∷ s .«squared_residual» ∷ []) ++ s .«full_pose_gradient» ++ s .«pose_diagonal» ++ (s .«point_model_reduction» ∷ s .«scaled_point_gradient_inf_norm» ∷ s .«minimum_point_rcond» ∷ [])
+
+abbrev pub flag : Bool → ℕ
+flag b = cond b 1 0
+
+unfoldable pub systemCounts : ReducedSystem → List ℕ
+systemCounts s = s .«weak_point_count» ∷ s .«block_count» ∷ flag (s .valid) ∷ []
+
+-- what a whole step gives, the room apart: twelve numbers and the weak count
+abbrev pub stepNumbers : StepResult → List Float
+stepNumbers s =
+    let p = s .«pose_step» in
+    p ! 0 ∷ p ! 1 ∷ p ! 2 ∷ p ! 3 ∷ p ! 4 ∷ s .cost ∷ s .«squared_residual» ∷ s .«gradient_norm» ∷ s .«minimum_point_rcond» ∷ s .«point_step_rms» ∷ s .«point_damping_norm» ∷ s .«predicted_reduction» ∷ []
+
+abbrev pub stepCount : StepResult → List ℕ
+stepCount s = s .«weak_point_count» ∷ []
+
+-- residual and Jacobian; inverse and rcond; step and damping norm
+abbrev pub projectionNumbers : Projected → List Float
+projectionNumbers p =
+    let r = p .residual in
+    let j = p .jacobian in
+    r ! 0 ∷ r ! 1 ∷ j ! 0 ∷ j ! 1 ∷ j ! 2 ∷ j ! 3 ∷ j ! 4 ∷ j ! 5 ∷ []
+
+abbrev pub factorNumbers : LoneFactor → List Float
+factorNumbers f =
+    let i = f .inverse in
+    i ! 0 ∷ i ! 1 ∷ i ! 2 ∷ i ! 3 ∷ i ! 4 ∷ i ! 5 ∷ f .rcond ∷ []
+
+abbrev pub pointStepNumbers : PointStep → List Float
+pointStepNumbers p = p .step ! 0 ∷ p .step ! 1 ∷ p .step ! 2 ∷ p .«damping_norm» ∷ []

@@ -1,0 +1,186 @@
+// The structs of the calls, from lent numbers and back.
+ghost use mathlib.Core.Path.{_≡_};
+ghost use Prim.Native.Nat.{_+_, _≤_};
+ghost use lib.ListN.{length};
+ghost use Rattle.flat.specs.Flat as Flat;
+use crate::memory;
+use linearization::Correspondence;
+use linearization::LocalLinearization;
+use linearization::Pose;
+use optimizer::Rig;
+use optimizer::StepResult;
+use point_block::LoneFactor;
+use point_step::PointStep;
+use projection::PinholeCamera;
+use projection::Projected;
+use refusal::Refusal;
+use schur::ReducedSystem;
+
+// Five numbers, from `start` on
+pub fn camera(x: &[f64], start: usize) -> PinholeCamera
+    ensures { λ r. ⌜ (start + 5 ≤ length (now (x .entry)) → r ≡ Flat.camera (Flat.part start (start + 5) (now (x .entry)))) ⌝ }
+{
+    let numbers = memory::vector5(x, start);
+    PinholeCamera {
+        fx: numbers[0],
+        fy: numbers[1],
+        cx: numbers[2],
+        cy: numbers[3],
+        skew: numbers[4],
+    }
+}
+
+fn pose(x: &[f64]) -> Pose
+    ensures { λ r. ⌜ (length (now (x .entry)) ≡ 19 → r ≡ Flat.pose (now (x .entry))) ⌝ }
+{
+    Pose {
+        rotation: memory::vector9(x, 0),
+        translation: memory::vector3(x, 9),
+        basis: memory::vector6(x, 12),
+        baseline: memory::number(x, 18),
+    }
+}
+
+// Camera 1 and 2, then how the second one sits
+pub fn rig(x: &[f64]) -> Rig
+    ensures { λ r. ⌜ (length (now (x .entry)) ≡ 29 → r ≡ Flat.rig (now (x .entry))) ⌝ }
+{
+    let mut sits = [0.0; 19];
+    memory::read(x, 10, &mut sits);
+    Rig {
+        camera1: camera(x, 0),
+        camera2: camera(x, 5),
+        pose: pose(&sits),
+    }
+}
+
+pub fn correspondence(x: &[f64]) -> Correspondence
+    ensures { λ r. ⌜ (length (now (x .entry)) ≡ 8 → r ≡ Flat.correspondence (now (x .entry))) ⌝ }
+{
+    Correspondence {
+        point: memory::vector3(x, 0),
+        view1: memory::vector2(x, 3),
+        view2: memory::vector2(x, 5),
+        inverse_deviation: memory::number(x, 7),
+    }
+}
+
+pub fn block(x: &[f64]) -> LocalLinearization
+    ensures { λ r. ⌜ (length (now (x .entry)) ≡ 59 → r ≡ Flat.block (now (x .entry))) ⌝ }
+{
+    LocalLinearization {
+        pose_hessian: memory::vector25(x, 0),
+        cross_hessian: memory::vector15(x, 25),
+        point_hessian: memory::vector9(x, 40),
+        pose_gradient: memory::vector5(x, 49),
+        point_gradient: memory::vector3(x, 54),
+        cost: memory::number(x, 57),
+        squared_residual: memory::number(x, 58),
+        refusal: Refusal::none(),
+    }
+}
+
+// The flag is false where it is 0.
+pub fn system(x: &[f64], counts: &[u16]) -> ReducedSystem
+    ensures { λ r. ⌜ (length (now (x .entry)) ≡ 45 → length (now (counts .entry)) ≡ 3 → r ≡ Flat.system (now (x .entry)) (now (counts .entry))) ⌝ }
+{
+    ReducedSystem {
+        hessian: memory::vector25(x, 0),
+        gradient: memory::vector5(x, 25),
+        cost: memory::number(x, 30),
+        squared_residual: memory::number(x, 31),
+        full_pose_gradient: memory::vector5(x, 32),
+        pose_diagonal: memory::vector5(x, 37),
+        point_model_reduction: memory::number(x, 42),
+        scaled_point_gradient_inf_norm: memory::number(x, 43),
+        weak_point_count: memory::count(counts, 0),
+        minimum_point_rcond: memory::number(x, 44),
+        valid: memory::count(counts, 2) != 0,
+        block_count: memory::count(counts, 1),
+    }
+}
+
+pub fn block_numbers(b: LocalLinearization) -> [f64; 59]
+    ensures { λ r. ⌜ r ≡ Flat.blockNumbers b ⌝ }
+{
+    let pose_hessian = b.pose_hessian;
+    let cross_hessian = b.cross_hessian;
+    let point_hessian = b.point_hessian;
+    let pose_gradient = b.pose_gradient;
+    let point_gradient = b.point_gradient;
+    let mut values = [0.0; 59];
+    memory::copy(&pose_hessian, 0, &mut values);
+    memory::copy(&cross_hessian, 25, &mut values);
+    memory::copy(&point_hessian, 40, &mut values);
+    memory::copy(&pose_gradient, 49, &mut values);
+    memory::copy(&point_gradient, 54, &mut values);
+    memory::copy(&[b.cost, b.squared_residual], 57, &mut values);
+    values
+}
+
+pub fn system_numbers(s: ReducedSystem) -> [f64; 45]
+    ensures { λ r. ⌜ r ≡ Flat.systemNumbers s ⌝ }
+{
+    let hessian = s.hessian;
+    let gradient = s.gradient;
+    let full_pose_gradient = s.full_pose_gradient;
+    let pose_diagonal = s.pose_diagonal;
+    let mut values = [0.0; 45];
+    memory::copy(&hessian, 0, &mut values);
+    memory::copy(&gradient, 25, &mut values);
+    memory::copy(&[s.cost, s.squared_residual], 30, &mut values);
+    memory::copy(&full_pose_gradient, 32, &mut values);
+    memory::copy(&pose_diagonal, 37, &mut values);
+    let last = [
+        s.point_model_reduction,
+        s.scaled_point_gradient_inf_norm,
+        s.minimum_point_rcond,
+    ];
+    memory::copy(&last, 42, &mut values);
+    values
+}
+
+pub fn step_numbers(s: StepResult) -> [f64; 12]
+    ensures { λ r. ⌜ r ≡ Flat.stepNumbers s ⌝ }
+{
+    let p = s.pose_step;
+    [
+        p[0],
+        p[1],
+        p[2],
+        p[3],
+        p[4],
+        s.cost,
+        s.squared_residual,
+        s.gradient_norm,
+        s.minimum_point_rcond,
+        s.point_step_rms,
+        s.point_damping_norm,
+        s.predicted_reduction,
+    ]
+}
+
+// Residual and Jacobian
+pub fn projection_numbers(p: Projected) -> [f64; 8]
+    ensures { λ r. ⌜ r ≡ Flat.projectionNumbers p ⌝ }
+{
+    let r = p.residual;
+    let j = p.jacobian;
+    [r[0], r[1], j[0], j[1], j[2], j[3], j[4], j[5]]
+}
+
+// Inverse and rcond
+pub fn factor_numbers(f: LoneFactor) -> [f64; 7]
+    ensures { λ r. ⌜ r ≡ Flat.factorNumbers f ⌝ }
+{
+    let i = f.inverse;
+    [i[0], i[1], i[2], i[3], i[4], i[5], f.rcond]
+}
+
+// Step and damping norm
+pub fn point_step_numbers(p: PointStep) -> [f64; 4]
+    ensures { λ r. ⌜ r ≡ Flat.pointStepNumbers p ⌝ }
+{
+    let s = p.step;
+    [s[0], s[1], s[2], p.damping_norm]
+}

@@ -1,0 +1,17 @@
+-- `lines::verdict` meets its contract. Assumes nothing.
+use mathlib.Core.Path.{refl}
+use Rattle.lines.proofs.verdict.Statement.{statement}
+use Rattle.lines.proofs.verdict.Tie as tie
+
+returns : tie.Need-returns
+returns c = rw (c .if1 .taken) refl
+
+returns-2 : tie.Need-returns-2
+returns-2 c = rw (c .if1 .left) refl
+
+pub verdict-spec : {M : Type 1} → statement M
+verdict-spec =
+    tie.close
+    (tie.spec
+    returns
+    returns-2)

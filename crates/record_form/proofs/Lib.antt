@@ -1,0 +1,2 @@
+-- Laws of the record's form.
+pub mod Forms

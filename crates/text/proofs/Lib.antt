@@ -1,0 +1,2 @@
+-- Laws of texts put into a buffer, one after the other.
+pub mod Puts
