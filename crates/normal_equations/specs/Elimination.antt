@@ -18,11 +18,12 @@ crossRow cross i = cross ! (3 * i) ∷ cross ! (3 * i + 1) ∷ cross ! (3 * i + 
 unfoldable pub inverseGradient : List Float → LocalLinearization → List Float
 inverseGradient inverse b = solve inverse (b .«point_gradient»)
 
--- at row i and column j, x is the inverse times row j of the cross Hessian
+-- the cross Hessian times the inverse times its transpose: at row i and column j, row i times the inverse times row j
+unfoldable pub schurTerm : List Float → List Float → List Float
+schurTerm inverse cross = tabulate 25 (λ k. dot3 (crossRow cross (k / 5)) (solve inverse (crossRow cross (k % 5))))
+
 unfoldable pub reducedHessian : List Float → List Float → LocalLinearization → List Float
-reducedHessian h inverse b =
-    let cross = b .«cross_hessian» in
-    tabulate 25 (λ k. h ! k ⊕ (b .«pose_hessian» ! k ⊖ dot3 (crossRow cross (k / 5)) (solve inverse (crossRow cross (k % 5)))))
+reducedHessian h inverse b = tabulate 25 (λ k. h ! k ⊕ (b .«pose_hessian» ! k ⊖ schurTerm inverse (b .«cross_hessian») ! k))
 
 unfoldable pub reducedGradient : List Float → List Float → LocalLinearization → List Float
 reducedGradient g inverse b = tabulate 5 (λ i. g ! i ⊕ (b .«pose_gradient» ! i ⊖ dot3 (crossRow (b .«cross_hessian») i) (inverseGradient inverse b)))

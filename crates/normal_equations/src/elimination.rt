@@ -8,8 +8,7 @@ ghost use Rattle.normal_equations.specs.Elimination as Elimination;
 use linearization::LocalLinearization;
 use point_block::PointBlockFactor;
 
-// The Hessian of the pose, with the block's less its cross Hessian times the inverse times the cross
-// Hessian's own transpose
+// The Hessian of the pose, with the block's less what the point takes up of it
 pub fn reduced_hessian(
     h: [f64; 25],
     factor: PointBlockFactor,
@@ -19,6 +18,18 @@ pub fn reduced_hessian(
 {
     let p = local.pose_hessian;
     let c = local.cross_hessian;
+    let term = schur_term(factor, c);
+    let mut out = [0.0; 25];
+    for k in 0..25 {
+        out[k] = h[k] + (p[k] - term[k]);
+    }
+    out
+}
+
+// The cross Hessian times the inverse times the cross Hessian's transpose
+fn schur_term(factor: PointBlockFactor, c: [f64; 15]) -> [f64; 25]
+    ensures { λ r. ⌜ r ≡ Elimination.schurTerm (factor .inverse) c ⌝ }
+{
     let x0 = factor.solve(cross_row(c, 0));
     let x1 = factor.solve(cross_row(c, 1));
     let x2 = factor.solve(cross_row(c, 2));
@@ -27,11 +38,11 @@ pub fn reduced_hessian(
     let mut out = [0.0; 25];
     for i in 0..5 {
         let row = cross_row(c, i);
-        out[5 * i] = h[5 * i] + (p[5 * i] - dot3(row, x0));
-        out[5 * i + 1] = h[5 * i + 1] + (p[5 * i + 1] - dot3(row, x1));
-        out[5 * i + 2] = h[5 * i + 2] + (p[5 * i + 2] - dot3(row, x2));
-        out[5 * i + 3] = h[5 * i + 3] + (p[5 * i + 3] - dot3(row, x3));
-        out[5 * i + 4] = h[5 * i + 4] + (p[5 * i + 4] - dot3(row, x4));
+        out[5 * i] = dot3(row, x0);
+        out[5 * i + 1] = dot3(row, x1);
+        out[5 * i + 2] = dot3(row, x2);
+        out[5 * i + 3] = dot3(row, x3);
+        out[5 * i + 4] = dot3(row, x4);
     }
     out
 }

@@ -1,61 +1,30 @@
 -- `normal_equations::elimination::reduced_hessian` meets its contract. Assumes nothing.
-use mathlib.Core.Path.{_≡_, refl, _∙_}
-use mathlib.Core.List.{[], _∷_}
-use Prim.Native.Nat.{_*_, _+_, _-_, _≤_}
-use lib.ListN.{getD}
+use mathlib.Core.Path.{_≡_, refl}
+use Prim.Native.Nat.{_-_, _≤_}
 use native.Mathlib.Omega.{arith}
 use borrow.Author.Needs.{needs}
-use Rattle.number.proofs.Fill.{filledOf, byRows, array-none, array-full, row-of-five}
+use Rattle.number.proofs.Fill.{filledOf, array-none, array-next, array-full}
 use Rattle.number.specs.Binary64.{_⊕_, _⊖_}
 use Rattle.number.specs.Vectors.{_!_}
-use Rattle.normal_equations.specs.Elimination.{dot3, crossRow}
-use Rattle.normal_equations.proofs.Rows.{solved, hessian-is}
+use Rattle.normal_equations.specs.Elimination.{reducedHessian}
 use Rattle.normal_equations.proofs.elimination.reduced_hessian.Statement.{statement}
 use Rattle.normal_equations.proofs.elimination.reduced_hessian.Tie as tie
 
 abbrev Inv-loop : tie.InvT-loop
-Inv-loop h p c x0 x1 x2 x3 x4 out₀ i₀ out i = (i ≤ 5) × (out ≡ filledOf 25 (byRows 5 (λ i j. h ! (5 * i + j) ⊕ (p ! (5 * i + j) ⊖ dot3 (crossRow c i) (getD (x0 ∷ x1 ∷ x2 ∷ x3 ∷ x4 ∷ []) j [])))) (5 * i))
+Inv-loop h p term out₀ k₀ out k = (k ≤ 25) × (out ≡ filledOf 25 (λ k. h ! k ⊕ (p ! k ⊖ term ! k)) k)
 
 abbrev μ-loop : tie.MeasureT-loop
-μ-loop h p c x0 x1 x2 x3 x4 out₀ i₀ out i = 5 - i
+μ-loop h p term out₀ k₀ out k = 25 - k
 
 loop-holds : tie.Need-loop-holds Inv-loop μ-loop
 loop-holds c = (omega arith, array-none 25 _)
 
 loop-again : tie.Need-loop-again Inv-loop μ-loop
-loop-again c =
-    let v3 = c .before in
-    let v2 = v3 .before in
-    let v1 = v2 .before in
-    let v0 = v1 .before in
-    let x = v0 .before in
-    let l = x .before .before in
-    let first : 5 * l .loop .i + 0 ≡ 5 * l .loop .i = omega arith in
-    let e = x .cross-row6 .ensures in (
-      omega arith,
-      row-of-five _ _ _ _ _ _ _ _ _ (l .loop .inv .1)
-          (rw (v0 .dot3 .ensures, e, first) refl)
-          (rw (v1 .dot32 .ensures, e) refl)
-          (rw (v2 .dot33 .ensures, e) refl)
-          (rw (v3 .dot34 .ensures, e) refl)
-          (rw (c .dot35 .ensures, e) refl)
-          (omega arith),
-    )
+loop-again c = (omega arith, array-next _ _ _ _ _ (c .before .loop .inv .1) (refl) (omega arith))
 
 returns : tie.Need-returns Inv-loop μ-loop
-returns c =
-    let x4 = c .before .before in
-    let x3 = x4 .before .before in
-    let x2 = x3 .before .before in
-    let x1 = x2 .before .before in
-    let x0 = x1 .before .before in
-    let b = x0 .before .before .before .before .args .local in
-    let i = x0 .before .before .before .before .args .factor .inverse in
-    array-full _ _ _ _ (c .before .loop .inv .1) (omega arith)
-    ∙ hessian-is i b _ _ _ _ _ _ (solved i b 0 _ _ (x0 .before .cross-row .ensures) (x0 .solve .ensures)) (solved i b 1 _ _ (x1 .before .cross-row2 .ensures) (x1 .solve2 .ensures))
-    (solved i b 2 _ _ (x2 .before .cross-row3 .ensures) (x2 .solve3 .ensures))
-    (solved i b 3 _ _ (x3 .before .cross-row4 .ensures) (x3 .solve4 .ensures))
-    (solved i b 4 _ _ (x4 .before .cross-row5 .ensures) (x4 .solve5 .ensures))
+unfolding reducedHessian
+returns c = rw (← c .before .before .schur-term .ensures) (array-full _ _ _ _ (c .before .loop .inv .1) (omega arith))
 
 pub reduced-hessian-spec : {M : Type 1} → statement M
 reduced-hessian-spec =
@@ -63,76 +32,12 @@ reduced-hessian-spec =
     (tie.spec
     Inv-loop
     μ-loop
-    (λ c κs. omega arith)
-    (λ c κs. search needs)
-    (λ c κs. omega arith)
-    (λ c κs. search needs)
-    (λ c κs. omega arith)
-    (λ c κs. search needs)
-    (λ c κs. omega arith)
-    (λ c κs. search needs)
-    (λ c κs. omega arith)
     (λ c κs. search needs)
     loop-holds
-    (λ c κs. omega arith)
     (λ c. omega arith)
     (λ c. omega arith)
     (λ c. omega arith)
     (λ c. omega arith)
-    (λ c. omega arith)
-    (λ c. omega arith)
-    (λ c κs. search needs)
-    (λ c. omega arith)
-    (λ c. omega arith)
-    (λ c. omega arith)
-    (λ c. omega arith)
-    (λ c. omega arith)
-    (λ c. omega arith)
-    (λ c. omega arith)
-    (λ c. omega arith)
-    (λ c. omega arith)
-    (λ c. omega arith)
-    (λ c. omega arith)
-    (λ c κs. search needs)
-    (λ c. omega arith)
-    (λ c. omega arith)
-    (λ c. omega arith)
-    (λ c. omega arith)
-    (λ c. omega arith)
-    (λ c. omega arith)
-    (λ c. omega arith)
-    (λ c. omega arith)
-    (λ c. omega arith)
-    (λ c. omega arith)
-    (λ c. omega arith)
-    (λ c. omega arith)
-    (λ c κs. search needs)
-    (λ c. omega arith)
-    (λ c. omega arith)
-    (λ c. omega arith)
-    (λ c. omega arith)
-    (λ c. omega arith)
-    (λ c. omega arith)
-    (λ c. omega arith)
-    (λ c. omega arith)
-    (λ c. omega arith)
-    (λ c. omega arith)
-    (λ c. omega arith)
-    (λ c. omega arith)
-    (λ c κs. search needs)
-    (λ c. omega arith)
-    (λ c. omega arith)
-    (λ c. omega arith)
-    (λ c. omega arith)
-    (λ c. omega arith)
-    (λ c. omega arith)
-    (λ c. omega arith)
-    (λ c. omega arith)
-    (λ c. omega arith)
-    (λ c. omega arith)
-    (λ c. omega arith)
-    (λ c. omega arith)
-    (λ c κs. search needs)
     (λ c. omega arith)
     (λ c. omega arith)
     (λ c. omega arith)
