@@ -31,7 +31,7 @@ pub fn print() {
 }
 
 fn limited(name: &[u8], x: f64) {
-    let step = optimizer::limit_pose_step([x, 0.0, 0.0, 0.0, 0.0]);
+    let step = pose_step::limit_pose_step([x, 0.0, 0.0, 0.0, 0.0]);
     show::text(name);
     show::patterns(&step);
     show::end();
@@ -160,7 +160,7 @@ fn stepped(name: &[u8], p: Problem, n: usize, in_view1: usize)
         p.damping,
         &mut room[0..3 * n],
     );
-    told(name, done);
+    show_step(name, done);
 }
 
 // 65,536 points, and so many numbers in view 1
@@ -169,17 +169,27 @@ fn many(name: &[u8], in_view1: usize, damping: f64)
 {
     let zeros = [0.0; 196608];
     let mut room = [0.0; 196608];
-    told(name, step_of_zeros(&zeros, in_view1, damping, &mut room));
+    show_step(
+        name,
+        step_of_zeros(&zeros, in_view1, 131072, 65536, damping, &mut room),
+    );
 }
 
-fn step_of_zeros(zeros: &[f64], in_view1: usize, damping: f64, room: &mut [f64]) -> StepResult
-    requires { ⌜ (length (now zeros) ≡ 196608) × («in_view1» ≤ 196608) ⌝ }
+fn step_of_zeros(
+    zeros: &[f64],
+    in_view1: usize,
+    in_view2: usize,
+    n: usize,
+    damping: f64,
+    room: &mut [f64],
+) -> StepResult
+    requires { ⌜ (length (now zeros) ≡ 196608) × («in_view1» ≤ 196608) × («in_view2» ≤ 196608) × (n ≤ 196608) ⌝ }
 {
     optimizer::step(
         zeros,
         &zeros[0..in_view1],
-        &zeros[0..131072],
-        &zeros[0..65536],
+        &zeros[0..in_view2],
+        &zeros[0..n],
         rig(sound()),
         damping,
         room,
@@ -187,7 +197,7 @@ fn step_of_zeros(zeros: &[f64], in_view1: usize, damping: f64, room: &mut [f64])
 }
 
 // The refusal, or cost and squared residual
-fn told(name: &[u8], done: StepResult) {
+fn show_step(name: &[u8], done: StepResult) {
     show::text(name);
     show::text(b":");
     let refusal = done.refusal;

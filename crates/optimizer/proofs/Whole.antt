@@ -20,7 +20,8 @@ use Rattle.optimizer.specs.declared.StepResult.{StepResult}
 use Rattle.optimizer.specs.declared.point_steps.Sums.{Sums}
 use Rattle.optimizer.specs.Problem.{Problem, count}
 use Rattle.optimizer.specs.Checks as Checks
-use Rattle.optimizer.specs.Step.{reducedSystem, noSystem, reduced, poseStep, solvedOf, poseStepOf, stepsTo, sumsTo, finished, notStepped, stepped, solvedStep, refused, step, written, Done}
+use Rattle.pose_step.specs.PoseStep.{poseStep}
+use Rattle.optimizer.specs.Step.{reducedSystem, noSystem, reduced, solvedOf, poseStepOf, stepsTo, sumsTo, finished, notStepped, stepped, solvedStep, refused, step, written, Done}
 use Rattle.refusal.proofs.Scans.{stop-unless, pass-unless, row-refuses, after-none, held}
 use Rattle.optimizer.proofs.Parts.{all-fit}
 use Rattle.optimizer.proofs.PointSteps.{no-step-refused}

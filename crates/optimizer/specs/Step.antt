@@ -6,9 +6,8 @@ use mathlib.Core.List.{List, [], _∷_, _++_}
 use lib.Dec.{eqb}
 use lib.IntN.{pos}
 use lib.ListN.{length}
-use lib.Ieee.{Float, binary64, neg, lt, ofInt}
-use Rattle.number.specs.Binary64.{_⊕_, _⊗_, _⊘_, zero as zero·, half}
-use Rattle.number.specs.Extrema.{max}
+use lib.Ieee.{Float, binary64, ofInt}
+use Rattle.number.specs.Binary64.{_⊕_, _⊘_, zero as zero·}
 use Rattle.number.specs.Root.{sqrt}
 use Rattle.number.specs.Vectors.{_!_, sum, tabulate}
 use Rattle.refusal.specs.Rows as Rows
@@ -20,6 +19,7 @@ use Rattle.solver.specs.declared.Solved.{Solved}
 use Rattle.schur.specs.System.{newSystem, add}
 use Rattle.schur.specs.Model.{finishDamping, isValid, gradientInfNorm, predictedReduction}
 use Rattle.point_step.specs.PointStep.{pointStep}
+use Rattle.pose_step.specs.PoseStep.{squared, poseStep}
 use Rattle.schur.specs.declared.system.ReducedSystem.{ReducedSystem}
 use Rattle.linearization.specs.declared.views.Correspondence.{Correspondence}
 use Rattle.point_step.specs.declared.PointStep.{PointStep}
@@ -62,23 +62,6 @@ reduced p =
     cond (isNone (Checks.refused p)) (record { system = reducedSystem p; refusal = none }) (record { system = noSystem; refusal = Checks.refused p })
 
 -- ---- the step of the pose
-
-abbrev pub squared : Float → Float
-squared x = x ⊗ x
-
--- the longer of the rotation's part and the translation's
-abbrev pub stepLength : List Float → Float
-stepLength x = max (sqrt (sum (squared (x ! 0) ∷ squared (x ! 1) ∷ squared (x ! 2) ∷ []))) (sqrt (sum (squared (x ! 3) ∷ squared (x ! 4) ∷ [])))
-
-abbrev pub scaled : List Float → Float → List Float
-scaled x by = tabulate 5 (λ i. x ! i ⊗ by)
-
--- `limit_pose_step` at 0.5; the comparison is false for a NaN, which lets the vector through
-unfoldable pub limitPoseStep : List Float → List Float
-limitPoseStep x = cond (lt half (stepLength x)) (scaled x (half ⊘ stepLength x)) x
-
-unfoldable pub poseStep : List Float → List Float
-poseStep x = limitPoseStep (tabulate 5 (λ i. neg (x ! i)))
 
 abbrev pub solvedOf : Problem → Solved
 solvedOf p = solvePositiveDefinite (reducedSystem p .hessian) (reducedSystem p .gradient)

@@ -4,13 +4,11 @@
 // One whole step of the two-view problem over lent memory: kernel/two_view/optimizer.rs, residual.rs.
 mod checks;
 mod correspondences;
-mod limit;
 mod point_steps;
 mod reduced;
 mod whole_step;
 
 pub use checks::refused;
-pub use limit::limit_pose_step;
 use linearization::Pose;
 use projection::PinholeCamera;
 pub use reduced::Reduced;

@@ -11,7 +11,6 @@ ghost use Rattle.optimizer.specs.Step as Steps;
 use crate::Rig;
 use crate::StepResult;
 use crate::checks;
-use crate::limit;
 use crate::point_steps;
 use crate::reduced;
 use refusal::Refusal;
@@ -66,7 +65,7 @@ fn solved_step(
         return not_stepped(Refusal::of(refusal::NOT_SOLVED));
     }
     let x = solved.x;
-    let pose_step = limit::pose_step(x);
+    let pose_step = pose_step::pose_step(x);
     let sums = point_steps::write_steps(
         points,
         view1,

@@ -11,6 +11,7 @@ use Rattle.schur.specs.System as System
 use Rattle.schur.specs.Model as Model
 use Rattle.schur.specs.declared.system.ReducedSystem.{ReducedSystem}
 use Rattle.optimizer.specs.Problem.{Problem}
+use Rattle.pose_step.specs.PoseStep as PoseStep
 use Rattle.optimizer.specs.Step as Step
 use Rattle.flat.specs.Flat.{block, system, systemNumbers, systemCounts, flag, stepNumbers, stepCount}
 use Rattle.flat.specs.Answers.{code, lengthsCode, stored, Answer, answer, long}
@@ -82,4 +83,4 @@ step p x room out weak =
     (record { number = lengthsCode; room = room; out = out; weak = weak })
 
 unfoldable pub limitPoseStep : List Float → List Float → Answer Float
-limitPoseStep x out = answer (long x 5 && long out 5) none (Step.limitPoseStep x) out
+limitPoseStep x out = answer (long x 5 && long out 5) none (PoseStep.limitPoseStep x) out

@@ -39,7 +39,7 @@ pub fn limit_pose_step(x: &[f64], out: &mut [f64]) -> u64
     if !((x.len() == 5) & (out.len() == 5)) {
         return flat::lengths();
     }
-    let values = optimizer::limit_pose_step(flat::vector5(x, 0));
+    let values = pose_step::limit_pose_step(flat::vector5(x, 0));
     flat::answer(Refusal::none(), &values, out)
 }
 

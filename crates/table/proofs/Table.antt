@@ -10,7 +10,7 @@ use Rattle.point_block.specs.Damping.{largestDiagonal, floored, dampingDiagonal
 use Rattle.point_block.specs.Factor.{scaleOf, choleskyOf, goodPivots, inverseOf, notFactored, factorDamped}
 use Rattle.point_block.specs.Condition.{infinityNorm, inverseMatrix, reciprocalConditionNumber}
 use Rattle.point_block.specs.Lone as Lone
-use Rattle.optimizer.specs.Step.{limitPoseStep}
+use Rattle.pose_step.specs.PoseStep.{limitPoseStep}
 use Rattle.table.specs.Table.{Every, done, _and_, table}
 
 pub every-row-holds : Every table

@@ -14,7 +14,7 @@ use Rattle.projection.specs.Projection.{pixelProjection}
 use Rattle.projection.specs.declared.PinholeCamera.{PinholeCamera}
 use Rattle.point_block.specs.Lone.{factor, loneFactor}
 use Rattle.schur.specs.System.{isWeak}
-use Rattle.optimizer.specs.Step.{limitPoseStep}
+use Rattle.pose_step.specs.PoseStep.{limitPoseStep}
 
 abbrev pub bits : ℕ → Float
 bits = ofBits binary64

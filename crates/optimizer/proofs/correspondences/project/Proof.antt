@@ -1,6 +1,7 @@
 -- `optimizer::correspondences::project` meets its contract. Assumes nothing.
 use Rattle.optimizer.specs.Problem.{project}
 use borrow.Author.Tests.{eq-eqb, ne-eqb}
+use mathlib.Core.Path.{refl}
 use borrow.Author.Needs.{needs}
 use Rattle.optimizer.proofs.correspondences.project.Statement.{statement}
 use Rattle.optimizer.proofs.correspondences.project.Tie as tie
@@ -11,7 +12,7 @@ returns c = rw (eq-eqb _ _ (c .before .if1 .taken)) (c .pixel-projection .ensure
 
 returns-2 : tie.Need-returns-2
 unfolding project
-returns-2 c = rw (ne-eqb _ _ (c .before .before .before .if1 .left)) cc
+returns-2 c = rw (ne-eqb _ _ (c .before .before .before .if1 .left)) (rw (c .pixel-projection2 .ensures, c .before .camera-point .ensures, c .before .before .rotate .ensures) refl)
 
 pub project-spec : {M : Type 1} → statement M
 project-spec =

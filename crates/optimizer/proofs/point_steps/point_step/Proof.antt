@@ -1,13 +1,14 @@
 -- `optimizer::point_steps::point_step` meets its contract. Assumes nothing.
 use Rattle.point_step.specs.PointStep.{pointStep}
 use Rattle.optimizer.specs.Step.{pointStepOf}
+use mathlib.Core.Path.{refl}
 use borrow.Author.Needs.{needs}
 use Rattle.optimizer.proofs.point_steps.point_step.Statement.{statement}
 use Rattle.optimizer.proofs.point_steps.point_step.Tie as tie
 
 returns : tie.Need-returns
 unfolding pointStepOf pointStep
-returns c = cc
+returns c = rw (c .step-of-terms .ensures, c .before .terms-of .ensures) refl
 
 pub point-step-spec : {M : Type 1} → statement M
 point-step-spec =

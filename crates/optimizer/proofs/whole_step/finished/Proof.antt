@@ -1,5 +1,6 @@
 -- `optimizer::whole_step::finished` meets its contract. Assumes nothing.
 use Rattle.optimizer.specs.Step.{finished}
+use mathlib.Core.Path.{refl}
 use native.Mathlib.Omega.{arith}
 use borrow.Author.Needs.{needs}
 use Rattle.optimizer.proofs.whole_step.finished.Statement.{statement}
@@ -7,7 +8,10 @@ use Rattle.optimizer.proofs.whole_step.finished.Tie as tie
 
 returns : tie.Need-returns
 unfolding finished
-returns c = cc
+returns c =
+    let s = c .before in
+    let g = s .before in
+    rw (c .none .ensures, s .sqrt .ensures, g .before .scaled-gradient-inf-norm .ensures, g .before .before .before .predicted-reduction .ensures) refl
 
 pub finished-spec : {M : Type 1} → statement M
 finished-spec =

@@ -1,9 +1,9 @@
--- `optimizer::limit::pose_step` meets its contract. Assumes nothing.
-use Rattle.optimizer.specs.Step.{poseStep}
+-- `pose_step::pose_step` meets its contract. Assumes nothing.
+use Rattle.pose_step.specs.PoseStep.{poseStep}
 use native.Mathlib.Omega.{arith}
 use borrow.Author.Needs.{needs}
-use Rattle.optimizer.proofs.limit.pose_step.Statement.{statement}
-use Rattle.optimizer.proofs.limit.pose_step.Tie as tie
+use Rattle.pose_step.proofs.pose_step.Statement.{statement}
+use Rattle.pose_step.proofs.pose_step.Tie as tie
 
 returns : tie.Need-returns
 unfolding poseStep

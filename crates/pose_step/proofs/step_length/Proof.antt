@@ -1,11 +1,12 @@
--- `optimizer::limit::step_length` meets its contract. Assumes nothing.
+-- `pose_step::step_length` meets its contract. Assumes nothing.
+use mathlib.Core.Path.{refl}
 use native.Mathlib.Omega.{arith}
 use borrow.Author.Needs.{needs}
-use Rattle.optimizer.proofs.limit.step_length.Statement.{statement}
-use Rattle.optimizer.proofs.limit.step_length.Tie as tie
+use Rattle.pose_step.proofs.step_length.Statement.{statement}
+use Rattle.pose_step.proofs.step_length.Tie as tie
 
 returns : tie.Need-returns
-returns c = cc
+returns c = rw (c .max .ensures, c .before .sqrt2 .ensures, c .before .before .sqrt .ensures) refl
 
 pub step-length-spec : {M : Type 1} → statement M
 step-length-spec =

@@ -1,9 +1,9 @@
--- `optimizer::limit::limit_pose_step` meets its contract. Assumes nothing.
-use Rattle.optimizer.specs.Step.{limitPoseStep}
+-- `pose_step::limit_pose_step` meets its contract. Assumes nothing.
+use Rattle.pose_step.specs.PoseStep.{limitPoseStep}
 use mathlib.Core.Path.{refl}
 use borrow.Author.Needs.{needs}
-use Rattle.optimizer.proofs.limit.limit_pose_step.Statement.{statement}
-use Rattle.optimizer.proofs.limit.limit_pose_step.Tie as tie
+use Rattle.pose_step.proofs.limit_pose_step.Statement.{statement}
+use Rattle.pose_step.proofs.limit_pose_step.Tie as tie
 
 returns : tie.Need-returns
 unfolding limitPoseStep

@@ -1,0 +1,2 @@
+-- The step of the pose: optimizer.rs.
+pub mod PoseStep
