@@ -136,7 +136,7 @@ pub(crate) fn first_rows(plate: &Plate<'_>, room: usize) -> Option<Refusal> {
     if n > 65_535 {
         return Some(refuse(2, 0, 0));
     }
-    if !(plate.damping.is_finite() && plate.damping >= 0.0) {
+    if !crate::point_block::good_damping(plate.damping) {
         return Some(refuse(3, 0, 0));
     }
     let bad = |value: &f64| !(value.is_finite() && *value > 0.0);

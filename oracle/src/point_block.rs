@@ -35,3 +35,8 @@ pub fn solve(inverse: &[f64; 6], right_hand_side: &[f64; 3]) -> [f64; 3] {
 pub fn reciprocal_condition_number(inverse: &[f64; 6], matrix: &[f64; 9]) -> f64 {
     reach::reciprocal_condition_number(inverse, matrix)
 }
+
+/// Row 3 lets a damping through that is finite and not below zero.
+pub fn good_damping(damping: f64) -> bool {
+    damping.is_finite() && damping >= 0.0
+}

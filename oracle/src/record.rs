@@ -117,7 +117,7 @@ fn rows_3_to_8(run: &Run) -> Option<Refusal> {
         Some(refuse(number, view, index))
     };
     let (damping, baseline) = (run.damping, run.rig.baseline);
-    whole(3, damping.is_finite() && damping >= 0.0)
+    whole(3, crate::point_block::good_damping(damping))
         .or_else(|| {
             first(4, 0, |correspondence| {
                 positive(correspondence.inverse_deviation)

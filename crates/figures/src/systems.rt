@@ -2,7 +2,6 @@
 use linearization::Correspondence;
 use linearization::LocalLinearization;
 use linearization::Pose;
-use point_block::PointBlockFactor;
 use projection::PinholeCamera;
 use schur::ReducedSystem;
 
@@ -52,16 +51,7 @@ fn point(system: ReducedSystem, index: u16, x: f64, y: f64, off: f64) -> Reduced
     let block = seen(x, y, off);
     show::text(b"plate p");
     show::count(index as u64);
-    let matrix = block.point_hessian;
-    let lone = PointBlockFactor::new(matrix, 0.0);
-    let refusal = lone.refusal;
-    if !refusal.is_none() {
-        show::text(b" n");
-    } else if lone.rcond <= number::EPSILON192 {
-        show::text(b" w");
-    } else {
-        show::text(b" g");
-    }
+    show::text(&[b' ', lines::letter(block, 0.0)]);
     show::end();
     let added = system.add(block, 0.0);
     added.system

@@ -163,7 +163,8 @@ too-short fits refusal values out number t e = rw (not-true fits t) (record { sa
 
 -- the call's own answer
 pub answers : {A : Type 0} (fits : Bool) (refusal r : Refusal) (values v out after : List A) (number : ℕ) → not fits ≡ false → r ≡ refusal → v ≡ values
-    → length v ≡ length out → (number ≡ code r) × (length v ≡ length out → after ≡ stored r v out) → Answered number after (answer fits refusal values out)
+    → length v ≡ length out → (number ≡ code r) × (length v ≡ length out → after ≡ stored r v out) × ((length v ≡ length out → ⊥) → after ≡ out)
+    → Answered number after (answer fits refusal values out)
 unfolding answer
 answers fits refusal r values v out after number t p q n e =
     rw (not-false fits t) (record { same-number = e .0 ∙ ap code p; same-out = e .1 n ∙ ap (λ (x : Refusal). stored x v out) p ∙ ap (λ (x : List _). stored refusal x out) q })

@@ -19,6 +19,11 @@ lengthsCode = code (of Rows.lengths)
 unfoldable pub stored : {A : Type 0} → Refusal → List A → List A → List A
 stored r values out = cond (isNone r) values out
 
+-- values stored in `out`, where it has room for just as many; else it stays as it was
+pub record Stores {A : Type 0} (values before after : List A) : Type 0 where
+  pub fits : length values ≡ length before → after ≡ values
+  pub leaves : (length values ≡ length before → ⊥) → after ≡ before
+
 -- the number that comes back, and `out`
 pub record Answer (A : Type 0) : Type 0 where
   pub number : ℕ

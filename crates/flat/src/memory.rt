@@ -21,10 +21,11 @@ pub fn lengths() -> u64
     code(Refusal::of(refusal::LENGTHS))
 }
 
-// Stores the values where nothing was refused, and answers the refusal's code.
+// Stores the values where nothing was refused and `out` has room for just as many, and answers the refusal's code.
 pub fn answer(refusal: Refusal, values: &[f64], out: &mut [f64]) -> u64
     ensures { λ r. ⌜ (r ≡ Answers.code refusal)
-        × (length (now (values .entry)) ≡ length (now (out .entry)) → now (out .exit) ≡ Answers.stored refusal (now (values .entry)) (now (out .entry))) ⌝ }
+        × (length (now (values .entry)) ≡ length (now (out .entry)) → now (out .exit) ≡ Answers.stored refusal (now (values .entry)) (now (out .entry)))
+        × ((length (now (values .entry)) ≡ length (now (out .entry)) → ⊥) → now (out .exit) ≡ now (out .entry)) ⌝ }
 {
     if !refusal.is_none() {
         return code(refusal);
@@ -33,9 +34,9 @@ pub fn answer(refusal: Refusal, values: &[f64], out: &mut [f64]) -> u64
     code(refusal)
 }
 
-// Stores the values where `out` has room for just as many.
+// Stores the values where `out` has room for just as many; else `out` stays as it was.
 pub fn store(values: &[f64], out: &mut [f64])
-    ensures { λ _. ⌜ (length (now (values .entry)) ≡ length (now (out .entry)) → now (out .exit) ≡ now (values .entry)) ⌝ }
+    ensures { λ _. ⌜ Answers.Stores (now (values .entry)) (now (out .entry)) (now (out .exit)) ⌝ }
 {
     if values.len() == out.len() {
         copy(values, 0, out);

@@ -62,10 +62,10 @@ sums v cost squared =
 
 -- cost and squared residual are added from +0
 unfoldable pub block : LinearizedViews → Float → LocalLinearization
-block v weight =
+block v inverseDeviation =
     let m = norm (v .residual1) in
     let n = norm (v .residual2) in
-    sums v (zero ⊕ lossCost (m ⊗ weight) ⊕ lossCost (n ⊗ weight)) (zero ⊕ m ⊗ m ⊕ n ⊗ n)
+    sums v (zero ⊕ lossCost (m ⊗ inverseDeviation) ⊕ lossCost (n ⊗ inverseDeviation)) (zero ⊕ m ⊗ m ⊕ n ⊗ n)
 
 unfoldable pub linearizePoint : PinholeCamera → PinholeCamera → Pose → Correspondence → LocalLinearization
 linearizePoint camera1 camera2 pose correspondence =

@@ -64,9 +64,9 @@ notSeen r = record {
 }
 
 unfoldable pub weightedViews : Projected → Projected → List Float → Pose → Float → LinearizedViews
-weightedViews first second rotated pose weight = record {
-  first = firstRows first pose (rowWeight (first .residual) weight);
-  second = secondRows second rotated pose (rowWeight (second .residual) weight);
+weightedViews first second rotated pose inverseDeviation = record {
+  first = firstRows first pose (rowWeight (first .residual) inverseDeviation);
+  second = secondRows second rotated pose (rowWeight (second .residual) inverseDeviation);
   residual1 = first .residual;
   residual2 = second .residual;
   refusal = none;

@@ -60,14 +60,16 @@ fn not_made(refusal: Refusal) -> LocalLinearization
 }
 
 // The block of two views, with what each adds to the cost and to the squared residual
-fn block(views: LinearizedViews, weight: f64) -> LocalLinearization
-    ensures { λ r. ⌜ r ≡ Linearize.block views weight ⌝ }
+fn block(views: LinearizedViews, inverse_deviation: f64) -> LocalLinearization
+    ensures { λ r. ⌜ r ≡ Linearize.block views «inverse_deviation» ⌝ }
 {
     let residual1 = views.residual1;
     let residual2 = views.residual2;
     let norm1 = loss::norm(residual1);
     let norm2 = loss::norm(residual2);
-    let cost = 0.0 + loss::loss_cost(norm1 * weight) + loss::loss_cost(norm2 * weight);
+    let cost = 0.0
+        + loss::loss_cost(norm1 * inverse_deviation)
+        + loss::loss_cost(norm2 * inverse_deviation);
     sums(views, cost, 0.0 + norm1 * norm1 + norm2 * norm2)
 }
 

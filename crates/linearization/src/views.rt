@@ -60,8 +60,8 @@ pub fn linearize_views(
 ) -> LinearizedViews
     ensures { λ r. ⌜ r ≡ Views.linearizeViews camera1 camera2 pose correspondence ⌝ }
 {
-    let weight = correspondence.inverse_deviation;
-    if !good_deviation(weight) {
+    let inverse_deviation = correspondence.inverse_deviation;
+    if !good_deviation(inverse_deviation) {
         return not_seen(Refusal::of(refusal::INVERSE_DEVIATION));
     }
     let point = correspondence.point;
@@ -84,7 +84,7 @@ pub fn linearize_views(
     if !refusal2.is_none() {
         return not_seen(Refusal::at(refusal::PROJECTION, 2, 0));
     }
-    weighted_views(first, second, rotated, pose, weight)
+    weighted_views(first, second, rotated, pose, inverse_deviation)
 }
 
 // Row 4 lets an inverse deviation through that is finite and above 0.
@@ -120,15 +120,20 @@ fn weighted_views(
     second: Projected,
     rotated: [f64; 3],
     pose: Pose,
-    weight: f64,
+    inverse_deviation: f64,
 ) -> LinearizedViews
-    ensures { λ r. ⌜ r ≡ Views.weightedViews first second rotated pose weight ⌝ }
+    ensures { λ r. ⌜ r ≡ Views.weightedViews first second rotated pose «inverse_deviation» ⌝ }
 {
     let residual1 = first.residual;
     let residual2 = second.residual;
     LinearizedViews {
-        first: first_rows(first, pose, loss::row_weight(residual1, weight)),
-        second: second_rows(second, rotated, pose, loss::row_weight(residual2, weight)),
+        first: first_rows(first, pose, loss::row_weight(residual1, inverse_deviation)),
+        second: second_rows(
+            second,
+            rotated,
+            pose,
+            loss::row_weight(residual2, inverse_deviation),
+        ),
         residual1,
         residual2,
         refusal: Refusal::none(),

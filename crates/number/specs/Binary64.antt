@@ -28,10 +28,6 @@ half = ofBits binary64 0x3fe0_0000_0000_0000
 abbrev pub one : Float
 one = ofBits binary64 0x3ff0_0000_0000_0000
 
--- ε is 2 ^ -52, `f64::EPSILON`
-abbrev pub epsilon : Float
-epsilon = ofBits binary64 0x3cb0_0000_0000_0000
-
 -- 64ε and 192ε
 abbrev pub epsilon64 : Float
 epsilon64 = ofBits binary64 0x3d10_0000_0000_0000

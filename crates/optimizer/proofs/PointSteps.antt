@@ -20,7 +20,7 @@ use Rattle.schur.specs.Model.{withHessian, finishDamping, isValid}
 use Rattle.point_step.specs.PointStep.{stepped, stepOfTerms, pointStep}
 use Rattle.schur.specs.System.{newSystem}
 use Rattle.schur.specs.Claim.{WeakCount}
-use Rattle.schur.specs.Calls.{Inputs, Call, atDamping, after, factors, smallRcond, atZero, blocksIn, every, those}
+use Rattle.schur.specs.Calls.{Inputs, Call, atDamping, after, factors, smallRcond, atZero, blocksIn, all, filter}
 use Rattle.linearization.specs.declared.linearize.LocalLinearization.{LocalLinearization}
 use Rattle.schur.specs.declared.system.ReducedSystem.{ReducedSystem}
 use Rattle.schur.proofs.Claim.{claim}
@@ -54,12 +54,12 @@ all-taken p m i (suc n) h =
     rw (lt-ltb m 65535 k) (ap (λ (l : List LocalLinearization). blockAt p i ∷ l) (all-taken p (suc m) (suc i) n (omega arith)))
 
 -- what holds of every block holds of each
-each : (p : Problem) (good : LocalLinearization → Bool) (i n j : ℕ) → every good (blocks p i n) ≡ true → j < n → good (blockAt p (i + j)) ≡ true
+each : (p : Problem) (good : LocalLinearization → Bool) (i n j : ℕ) → all good (blocks p i n) ≡ true → j < n → good (blockAt p (i + j)) ≡ true
 each p good i zero j e h = absurd (omega arith)
-each p good i (suc n) zero e h = ap (λ (k : ℕ). good (blockAt p k)) (add-zero i) ∙ both-hold (good (blockAt p i)) (every good (blocks p (suc i) n)) e .0
+each p good i (suc n) zero e h = ap (λ (k : ℕ). good (blockAt p k)) (add-zero i) ∙ both-hold (good (blockAt p i)) (all good (blocks p (suc i) n)) e .0
 each p good i (suc n) (suc j) e h =
     ap (λ (k : ℕ). good (blockAt p k)) (add-suc i j ∙ sym (suc-add i j))
-    ∙ each p good (suc i) n j (both-hold (good (blockAt p i)) (every good (blocks p (suc i) n)) e .1) (omega arith)
+    ∙ each p good (suc i) n j (both-hold (good (blockAt p i)) (all good (blocks p (suc i) n)) e .1) (omega arith)
 
 -- ---- a valid system, and a block that factors
 
@@ -78,10 +78,10 @@ steps b d s g e = rw (is-true (goodDamping d) g, sym (lone-factors (b .«point_h
 
 -- every block of a problem that has a valid system factors
 module _ (p : Problem) (good : T (goodDamping (p .damping))) (h : count p ≤ 65535) (valid : isValid (reducedSystem p) ≡ true) where
-  all-factor : every (factors (p .damping)) (blocks p 0 (count p)) ≡ true
+  all-factor : all (factors (p .damping)) (blocks p 0 (count p)) ≡ true
   unfolding reducedSystem systemTo withHessian
   all-factor =
-      ap (λ (l : List LocalLinearization). every (factors (p .damping)) l) (sym (all-taken p 0 0 (count p) (omega arith)))
+      ap (λ (l : List LocalLinearization). all (factors (p .damping)) l) (sym (all-taken p 0 0 (count p) (omega arith)))
       ∙ sym (claim (p .damping) good (calls p 0 (count p)) .flag)
       ∙ ap (λ (t : ReducedSystem). t .valid) (after-calls p 0 (count p))
       ∙ ap (λ (k : ℕ). systemTo p k .valid) (zero-add (count p))
@@ -100,12 +100,12 @@ length-blocks : (p : Problem) (i n : ℕ) → length (blocks p i n) ≡ n
 length-blocks p i zero = refl
 length-blocks p i (suc n) = ap suc (length-blocks p (suc i) n)
 
-apart : (f s : LocalLinearization → Bool) (bs : List LocalLinearization) → length (those (λ b. not (f b)) bs) + length (those (λ b. f b && s b) bs) ≤ length bs
+apart : (f s : LocalLinearization → Bool) (bs : List LocalLinearization) → length (filter (λ b. not (f b)) bs) + length (filter (λ b. f b && s b) bs) ≤ length bs
 apart f s [] = omega arith
 apart f s (b ∷ bs) = by (f b) (s b) (apart f s bs)
   where
-    by : (x y : Bool) → length (those (λ b. not (f b)) bs) + length (those (λ b. f b && s b) bs) ≤ length bs
-        → length (cond (not x) (b ∷ those (λ b. not (f b)) bs) (those (λ b. not (f b)) bs)) + length (cond (x && y) (b ∷ those (λ b. f b && s b) bs) (those (λ b. f b && s b) bs)) ≤ suc (length bs)
+    by : (x y : Bool) → length (filter (λ b. not (f b)) bs) + length (filter (λ b. f b && s b) bs) ≤ length bs
+        → length (cond (not x) (b ∷ filter (λ b. not (f b)) bs) (filter (λ b. not (f b)) bs)) + length (cond (x && y) (b ∷ filter (λ b. f b && s b) bs) (filter (λ b. f b && s b) bs)) ≤ suc (length bs)
     by true true h = omega arith
     by true false h = omega arith
     by false y h = omega arith

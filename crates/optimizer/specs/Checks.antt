@@ -35,42 +35,42 @@ Fits points view1 view2 deviations =
     (length points ≡ 3 * length deviations) × (length view1 ≡ 2 * length deviations) × (length view2 ≡ 2 * length deviations) × (length deviations ≤ maxPoints)
 
 -- row 4
-abbrev pub deviationAt : List Float → ℕ → Refusal
-deviationAt deviations i = unless (goodDeviation (deviations ! i)) (at Rows.inverseDeviation 0 i)
+abbrev pub deviationRefused : List Float → ℕ → Refusal
+deviationRefused deviations i = unless (goodDeviation (deviations ! i)) (at Rows.inverseDeviation 0 i)
 
 -- row 5
 unfoldable pub goodBaseline : Float → Bool
 goodBaseline x = isFinite x && not (le x epsilon64)
 
 -- row 6
-abbrev pub pointAt : List Float → ℕ → Refusal
-pointAt points i = unless (allFinite (triple points i)) (at Rows.point 0 i)
+abbrev pub pointRefused : List Float → ℕ → Refusal
+pointRefused points i = unless (allFinite (triple points i)) (at Rows.point 0 i)
 
 -- row 8
-abbrev pub observationAt : ℕ → List Float → ℕ → Refusal
-observationAt number view i = unless (allFinite (pair view i)) (at Rows.observation number i)
+abbrev pub observationRefused : ℕ → List Float → ℕ → Refusal
+observationRefused number view i = unless (allFinite (pair view i)) (at Rows.observation number i)
 
 -- row 9 for one view of a point, then for two views from view 1 on
-abbrev pub viewAt : Rig → List Float → List Float → List Float → ℕ → ℕ → Refusal
-viewAt h points view1 view2 i view =
+abbrev pub viewRefused : Rig → List Float → List Float → List Float → ℕ → ℕ → Refusal
+viewRefused h points view1 view2 i view =
     unless (isNone (project h view (observation view1 view2 view i) (triple points i) .refusal)) (at Rows.projection view i)
 
-abbrev pub projectionAt : Rig → List Float → List Float → List Float → ℕ → Refusal
-projectionAt h points view1 view2 i = first (viewAt h points view1 view2 i) 1 2
+abbrev pub projectionRefused : Rig → List Float → List Float → List Float → ℕ → Refusal
+projectionRefused h points view1 view2 i = first (viewRefused h points view1 view2 i) 1 2
 
 -- rows 8 and 9: all of view 1, then view 2; then both views of a point before the next
 unfoldable pub seenRefused : Rig → List Float → List Float → List Float → ℕ → Refusal
 seenRefused h points view1 view2 n =
-    firstOf (first (observationAt 1 view1) 0 n ∷ first (observationAt 2 view2) 0 n ∷ first (projectionAt h points view1 view2) 0 n ∷ [])
+    firstOf (first (observationRefused 1 view1) 0 n ∷ first (observationRefused 2 view2) 0 n ∷ first (projectionRefused h points view1 view2) 0 n ∷ [])
 
 -- rows 3 to 9
 unfoldable pub valuesRefused : Problem → Refusal
 valuesRefused p =
     firstOf (
     unless (goodDamping (p .damping)) (of Rows.damping)
-    ∷ first (deviationAt (p .deviations)) 0 (count p)
+    ∷ first (deviationRefused (p .deviations)) 0 (count p)
     ∷ unless (goodBaseline (p .rig .pose .baseline)) (of Rows.baseline)
-    ∷ first (pointAt (p .points)) 0 (count p)
+    ∷ first (pointRefused (p .points)) 0 (count p)
     ∷ unless (leb minPoints (count p)) (of Rows.tooFewPoints)
     ∷ seenRefused (p .rig) (p .points) (p .view1) (p .view2) (count p)
     ∷ [])

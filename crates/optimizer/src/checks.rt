@@ -85,7 +85,7 @@ fn values_refused<'a>(
 // Row 4
 fn deviations_refused(inverse_deviations: &[f64]) -> Refusal
     requires { ⌜ length (now «inverse_deviations») ≤ Checks.maxPoints ⌝ }
-    ensures { λ r. ⌜ r ≡ First.first (Checks.deviationAt (now («inverse_deviations» .entry))) 0 (length (now («inverse_deviations» .entry))) ⌝ }
+    ensures { λ r. ⌜ r ≡ First.first (Checks.deviationRefused (now («inverse_deviations» .entry))) 0 (length (now («inverse_deviations» .entry))) ⌝ }
 {
     for i in 0..inverse_deviations.len() {
         if !linearization::good_deviation(inverse_deviations[i]) {
@@ -105,7 +105,7 @@ fn good_baseline(baseline: f64) -> bool
 // Row 6
 fn points_refused(points: &[f64], n: usize) -> Refusal
     requires { ⌜ (length (now points) ≡ 3 * n) × (n ≤ Checks.maxPoints) ⌝ }
-    ensures { λ r. ⌜ r ≡ First.first (Checks.pointAt (now (points .entry))) 0 n ⌝ }
+    ensures { λ r. ⌜ r ≡ First.first (Checks.pointRefused (now (points .entry))) 0 n ⌝ }
 {
     for i in 0..n {
         let point = correspondences::point_at(points, i);
@@ -141,7 +141,7 @@ fn seen_refused<'a>(
 // Row 8 for one view
 fn view_refused(view: &[f64], number: u32, n: usize) -> Refusal
     requires { ⌜ (length (now view) ≡ 2 * n) × (n ≤ Checks.maxPoints) ⌝ }
-    ensures { λ r. ⌜ r ≡ First.first (Checks.observationAt number (now (view .entry))) 0 n ⌝ }
+    ensures { λ r. ⌜ r ≡ First.first (Checks.observationRefused number (now (view .entry))) 0 n ⌝ }
 {
     for i in 0..n {
         let observation = correspondences::pair_at(view, i);
@@ -161,7 +161,7 @@ fn projections_refused<'a>(
     rig: Rig,
 ) -> Refusal
     requires { ⌜ (length (now points) ≡ 3 * n) × (length (now view1) ≡ 2 * n) × (length (now view2) ≡ 2 * n) × (n ≤ Checks.maxPoints) ⌝ }
-    ensures { λ r. ⌜ r ≡ First.first (Checks.projectionAt rig (now (points .entry)) (now (view1 .entry)) (now (view2 .entry))) 0 n ⌝ }
+    ensures { λ r. ⌜ r ≡ First.first (Checks.projectionRefused rig (now (points .entry)) (now (view1 .entry)) (now (view2 .entry))) 0 n ⌝ }
 {
     let mut place = Refusal::none();
     'points: for i in 0..n {

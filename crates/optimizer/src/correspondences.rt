@@ -70,7 +70,7 @@ pub(crate) fn block_of(rig: Rig, correspondence: Correspondence) -> LocalLineari
 }
 
 // What the step of a correspondence's point needs of its block
-pub(crate) fn terms_of(rig: Rig, correspondence: Correspondence) -> PointTerms
+pub(crate) fn point_terms_of(rig: Rig, correspondence: Correspondence) -> PointTerms
     ensures { λ r. ⌜ r ≡ Linearize.pointTerms (Problem.blockOf rig correspondence) ⌝ }
 {
     let camera1 = rig.camera1;

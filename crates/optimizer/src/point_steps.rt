@@ -68,7 +68,7 @@ fn point_step(
     ensures { λ r. ⌜ r ≡ Steps.pointStepOf rig correspondence damping «pose_step» ⌝ }
 {
     point_step::step_of_terms(
-        correspondences::terms_of(rig, correspondence),
+        correspondences::point_terms_of(rig, correspondence),
         damping,
         pose_step,
     )

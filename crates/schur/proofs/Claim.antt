@@ -25,7 +25,7 @@ use Rattle.schur.specs.declared.system.ReducedSystem.{ReducedSystem}
 use Rattle.schur.specs.declared.system.Added.{Added}
 use Rattle.normal_equations.specs.Elimination.{reducedHessian, reducedGradient, pointReduction}
 use Rattle.schur.specs.System.{maxBlocks, newSystem, isZero, isWeak, raised, notEliminated, eliminated, elimination, takenWith, taken, add}
-use Rattle.schur.specs.Calls.{Inputs, made, Call, atDamping, atRefused, added, results, after, afterBlocks, Tally, factors, smallRcond, room, takenIn, tally, refusals, blocksIn, every, those}
+use Rattle.schur.specs.Calls.{Inputs, made, Call, atDamping, atRefused, added, results, after, afterBlocks, Tally, factors, smallRcond, hasRoom, takenIn, tally, refusals, blocksIn, all, filter}
 use Rattle.linearization.proofs.Costs.{Costs, made-costs}
 use Rattle.schur.specs.Claim.{CallByCall, final, SameEquations, Further, Claim}
 
@@ -39,11 +39,11 @@ unfolding add
 add-bad s b x h = rw h refl
 
 module _ (d : Float) (good : T (goodDamping d)) where
-  add-taken : (s : ReducedSystem) (b : LocalLinearization) → Counts s → room (s .«block_count») ≡ true → add s b d ≡ record { system = taken s b d; refusal = none }
+  add-taken : (s : ReducedSystem) (b : LocalLinearization) → Counts s → hasRoom (s .«block_count») ≡ true → add s b d ≡ record { system = taken s b d; refusal = none }
   unfolding add
   add-taken s b c e = rw (is-true (goodDamping d) good, is-true (leb (s .«weak_point_count») (s .«block_count»)) c, e) refl
 
-  add-full : (s : ReducedSystem) (b : LocalLinearization) → Counts s → room (s .«block_count») ≡ false → add s b d ≡ record { system = s; refusal = of Rows.full }
+  add-full : (s : ReducedSystem) (b : LocalLinearization) → Counts s → hasRoom (s .«block_count») ≡ false → add s b d ≡ record { system = s; refusal = of Rows.full }
   unfolding add
   add-full s b c e = rw (is-true (goodDamping d) good, is-true (leb (s .«weak_point_count») (s .«block_count»)) c, e) refl
 
@@ -206,16 +206,16 @@ module _ (d : Float) (good : T (goodDamping d)) where
   tally-taken s b = rw (valid-taken s b, count-taken s b, weak-taken s b) refl
 
   abbrev weakIn : List LocalLinearization → ℕ
-  weakIn bs = length (those (λ b. not (factors d b)) bs) + length (those (λ b. factors d b && smallRcond d b) bs)
+  weakIn bs = length (filter (λ b. not (factors d b)) bs) + length (filter (λ b. factors d b && smallRcond d b) bs)
 
   -- What calls that take in the blocks bs make of s. The equations are those of any other system that had the same and adds only the blocks that factor.
   record From (s end : ReducedSystem) (t : Tally) (bs : List LocalLinearization) : Type 0 where
     sound : Sound end
     tallied : tallyOf end ≡ t
-    traceless : end ≡ afterBlocks d s bs
-    flag : end .valid ≡ (s .valid && every (factors d) bs)
+    blocks-alone : end ≡ afterBlocks d s bs
+    flag : end .valid ≡ (s .valid && all (factors d) bs)
     elimination : (u : ReducedSystem) → Counts u → T (leb (u .«block_count») (s .«block_count»)) → SameEquations s u
-        → SameEquations end (afterBlocks d u (those (factors d) bs))
+        → SameEquations end (afterBlocks d u (filter (factors d) bs))
     weak-zero : isZero d ≡ true → end .«weak_point_count» ≡ s .«weak_point_count» + weakIn bs
     weak-other : isZero d ≡ false → end .«weak_point_count» ≡ s .«weak_point_count»
     further : Further s end
@@ -224,7 +224,7 @@ module _ (d : Float) (good : T (goodDamping d)) where
   from-none s k = record {
     sound = k;
     tallied = refl;
-    traceless = refl;
+    blocks-alone = refl;
     flag = sym (and-true (s .valid));
     elimination = λ u c l same. same;
     weak-zero = λ z. omega arith;
@@ -232,7 +232,7 @@ module _ (d : Float) (good : T (goodDamping d)) where
     further = further-refl s k;
   }
 
-  module _ (s : ReducedSystem) (i : Inputs) (k : Sound s) (free : room (s .«block_count») ≡ true) where
+  module _ (s : ReducedSystem) (i : Inputs) (k : Sound s) (free : hasRoom (s .«block_count») ≡ true) where
     abbrev b : LocalLinearization
     b = made i
 
@@ -243,31 +243,31 @@ module _ (d : Float) (good : T (goodDamping d)) where
     next-sound = sound-taken s b k (costs .0) (costs .1)
 
     module _ (end : ReducedSystem) (t : Tally) (bs : List LocalLinearization) (f : From (taken s b d) end t bs) where
-      from-flag : end .valid ≡ (s .valid && every (factors d) (b ∷ bs))
-      from-flag = f .flag ∙ ap (λ (x : Bool). x && every (factors d) bs) (valid-taken s b) ∙ and-assoc (s .valid) (factors d b) (every (factors d) bs)
+      from-flag : end .valid ≡ (s .valid && all (factors d) (b ∷ bs))
+      from-flag = f .flag ∙ ap (λ (x : Bool). x && all (factors d) bs) (valid-taken s b) ∙ and-assoc (s .valid) (factors d b) (all (factors d) bs)
 
       from-weak : isZero d ≡ true → end .«weak_point_count» ≡ s .«weak_point_count» + weakIn (b ∷ bs)
       from-weak z = by (factors d b) (smallRcond d b) (f .weak-zero z ∙ ap (λ n. n + weakIn bs) (weak-taken s b ∙ rw z refl))
         where
           by : (x y : Bool) → end .«weak_point_count» ≡ raised (not x || y) (s .«weak_point_count») + weakIn bs
-              → end .«weak_point_count» ≡ s .«weak_point_count» + (length (cond (not x) (b ∷ those (λ b. not (factors d b)) bs) (those (λ b. not (factors d b)) bs))
-              + length (cond (x && y) (b ∷ those (λ b. factors d b && smallRcond d b) bs) (those (λ b. factors d b && smallRcond d b) bs)))
+              → end .«weak_point_count» ≡ s .«weak_point_count» + (length (cond (not x) (b ∷ filter (λ b. not (factors d b)) bs) (filter (λ b. not (factors d b)) bs))
+              + length (cond (x && y) (b ∷ filter (λ b. factors d b && smallRcond d b) bs) (filter (λ b. factors d b && smallRcond d b) bs)))
           by true true e = omega arith
           by true false e = omega arith
           by false y e = omega arith
 
       from-elimination : (u : ReducedSystem) → Counts u → T (leb (u .«block_count») (s .«block_count»)) → SameEquations s u
-          → SameEquations end (afterBlocks d u (those (factors d) (b ∷ bs)))
+          → SameEquations end (afterBlocks d u (filter (factors d) (b ∷ bs)))
       from-elimination u c l same = by (factors d b) refl
         where
           below : u .«block_count» ≤ s .«block_count»
           below = leb→le (u .«block_count») (s .«block_count») l
 
-          u-free : room (u .«block_count») ≡ true
-          u-free = is-true (room (u .«block_count»)) (lt→ltb (u .«block_count») maxBlocks (lt-of-le-of-lt below (ltb→lt (s .«block_count») maxBlocks (rw free tt))))
+          u-free : hasRoom (u .«block_count») ≡ true
+          u-free = is-true (hasRoom (u .«block_count»)) (lt→ltb (u .«block_count») maxBlocks (lt-of-le-of-lt below (ltb→lt (s .«block_count») maxBlocks (rw free tt))))
 
-          by : (x : Bool) → factors d b ≡ x → SameEquations end (afterBlocks d u (cond x (b ∷ those (factors d) bs) (those (factors d) bs)))
-          by true e = subst (λ (a : Added). SameEquations end (afterBlocks d (a .system) (those (factors d) bs))) (sym (add-taken u b c u-free))
+          by : (x : Bool) → factors d b ≡ x → SameEquations end (afterBlocks d u (cond x (b ∷ filter (factors d) bs) (filter (factors d) bs)))
+          by true e = subst (λ (a : Added). SameEquations end (afterBlocks d (a .system) (filter (factors d) bs))) (sym (add-taken u b c u-free))
               (f .elimination (taken u b d) (counts-taken u b c) (rw (count-taken u b, count-taken s b) (le→leb (suc (u .«block_count»)) (suc (s .«block_count»)) (omega (arith, below))))
               (equations-factored s u b same e))
           by false e = f .elimination u c (rw (count-taken s b) (le→leb (u .«block_count») (suc (s .«block_count»)) (omega (arith, below)))) (equations-refused s u b same e)
@@ -276,7 +276,7 @@ module _ (d : Float) (good : T (goodDamping d)) where
       from-taken = record {
         sound = f .sound;
         tallied = f .tallied;
-        traceless = f .traceless ∙ sym (ap (λ (a : Added). afterBlocks d (a .system) bs) (add-taken s b (k .counts) free));
+        blocks-alone = f .blocks-alone ∙ sym (ap (λ (a : Added). afterBlocks d (a .system) bs) (add-taken s b (k .counts) free));
         flag = from-flag;
         elimination = from-elimination;
         weak-zero = from-weak;
@@ -290,9 +290,9 @@ module _ (d : Float) (good : T (goodDamping d)) where
   from : (s : ReducedSystem) (cs : List Call) → Sound s → Rest cs s
   from s [] k = from-none s k
   from s (atRefused i x h ∷ cs) k = rw (add-bad s (made i) x h) (from s cs k)
-  from s (atDamping i ∷ cs) k = by (room (s .«block_count»)) refl (λ h. from (taken s (made i) d) cs h) (from s cs k)
+  from s (atDamping i ∷ cs) k = by (hasRoom (s .«block_count»)) refl (λ h. from (taken s (made i) d) cs h) (from s cs k)
     where
-      by : (x : Bool) → room (s .«block_count») ≡ x → (Sound (taken s (made i) d) → Rest cs (taken s (made i) d)) → Rest cs s
+      by : (x : Bool) → hasRoom (s .«block_count») ≡ x → (Sound (taken s (made i) d) → Rest cs (taken s (made i) d)) → Rest cs s
           → From s (after d (add s (made i) d .system) cs) (tally d (cond x (takenIn d (tallyOf s) (made i)) (tallyOf s)) cs)
           (cond x (made i ∷ blocksIn (suc (s .«block_count»)) cs) (blocksIn (s .«block_count») cs))
       by true e f g = rw (add-taken s (made i) (k .counts) e)
@@ -303,9 +303,9 @@ module _ (d : Float) (good : T (goodDamping d)) where
   refused-each : (s : ReducedSystem) (cs : List Call) → Sound s → map (λ (r : Added). r .refusal) (results d s cs) ≡ refusals d (tallyOf s) cs
   refused-each s [] k = refl
   refused-each s (atRefused i x h ∷ cs) k = rw (add-bad s (made i) x h) (ap (λ l. of Rows.damping ∷ l) (refused-each s cs k))
-  refused-each s (atDamping i ∷ cs) k = by (room (s .«block_count»)) refl (λ h. refused-each (taken s (made i) d) cs h) (refused-each s cs k)
+  refused-each s (atDamping i ∷ cs) k = by (hasRoom (s .«block_count»)) refl (λ h. refused-each (taken s (made i) d) cs h) (refused-each s cs k)
     where
-      by : (x : Bool) → room (s .«block_count») ≡ x
+      by : (x : Bool) → hasRoom (s .«block_count») ≡ x
           → (Sound (taken s (made i) d) → map (λ (r : Added). r .refusal) (results d (taken s (made i) d) cs) ≡ refusals d (tallyOf (taken s (made i) d)) cs)
           → map (λ (r : Added). r .refusal) (results d s cs) ≡ refusals d (tallyOf s) cs
           → (add s (made i) d .refusal ∷ map (λ (r : Added). r .refusal) (results d (add s (made i) d .system) cs))
@@ -335,7 +335,7 @@ module _ (d : Float) (good : T (goodDamping d)) where
   pub claim : (calls : List Call) → Claim d calls
   unfolding newSystem
   claim calls = let f = from newSystem calls sound-new in record {
-    figures = λ ran h. let k = ran-each newSystem calls ran h in record { each = k .0; last = k .1; traceless = k .1 ∙ f .traceless };
+    figures = λ ran h. let k = ran-each newSystem calls ran h in record { each = k .0; last = k .1; blocks-alone = k .1 ∙ f .blocks-alone };
     tallied = record {
       flag = ap (λ (t : Tally). t .flag) (f .tallied);
       blocks = ap (λ (t : Tally). t .blocks) (f .tallied);

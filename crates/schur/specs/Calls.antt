@@ -17,7 +17,7 @@ use Rattle.linearization.specs.declared.views.Correspondence.{Correspondence}
 use Rattle.schur.specs.declared.system.ReducedSystem.{ReducedSystem}
 use Rattle.schur.specs.declared.system.Added.{Added}
 use Rattle.linearization.specs.Linearize.{linearizePoint}
-use Rattle.schur.specs.System.{add}
+use Rattle.schur.specs.System.{maxBlocks, add}
 
 -- what a block is made from
 pub record Inputs : Type 0 where
@@ -74,8 +74,8 @@ unfoldable pub smallRcond : Float → LocalLinearization → Bool
 smallRcond d b = le (loneFactor (b .«point_hessian») d .rcond) epsilon192
 
 -- below row 13's block count
-abbrev pub room : ℕ → Bool
-room blocks = ltb blocks 65535
+abbrev pub hasRoom : ℕ → Bool
+hasRoom blocks = ltb blocks maxBlocks
 
 -- either zero
 abbrev pub atZero : Float → Bool
@@ -92,7 +92,7 @@ takenIn d t b = record {
 }
 
 abbrev pub counted : Float → Tally → Call → Tally
-counted d t (atDamping i) = cond (room (t .blocks)) (takenIn d t (made i)) t
+counted d t (atDamping i) = cond (hasRoom (t .blocks)) (takenIn d t (made i)) t
 counted d t (atRefused i x h) = t
 
 abbrev pub tally : Float → Tally → List Call → Tally
@@ -100,7 +100,7 @@ tally d t [] = t
 tally d t (c ∷ cs) = tally d (counted d t c) cs
 
 abbrev pub refusalOf : Tally → Call → Refusal
-refusalOf t (atDamping i) = cond (room (t .blocks)) none (of Rows.full)
+refusalOf t (atDamping i) = cond (hasRoom (t .blocks)) none (of Rows.full)
 refusalOf t (atRefused i x h) = of Rows.damping
 
 abbrev pub refusals : Float → Tally → List Call → List Refusal
@@ -111,13 +111,13 @@ refusals d t (c ∷ cs) = refusalOf t c ∷ refusals d (counted d t c) cs
 
 abbrev pub blocksIn : ℕ → List Call → List LocalLinearization
 blocksIn n [] = []
-blocksIn n (atDamping i ∷ cs) = cond (room n) (made i ∷ blocksIn (suc n) cs) (blocksIn n cs)
+blocksIn n (atDamping i ∷ cs) = cond (hasRoom n) (made i ∷ blocksIn (suc n) cs) (blocksIn n cs)
 blocksIn n (atRefused i x h ∷ cs) = blocksIn n cs
 
-abbrev pub every : (LocalLinearization → Bool) → List LocalLinearization → Bool
-every p [] = true
-every p (b ∷ bs) = p b && every p bs
+abbrev pub all : (LocalLinearization → Bool) → List LocalLinearization → Bool
+all p [] = true
+all p (b ∷ bs) = p b && all p bs
 
-abbrev pub those : (LocalLinearization → Bool) → List LocalLinearization → List LocalLinearization
-those p [] = []
-those p (b ∷ bs) = cond (p b) (b ∷ those p bs) (those p bs)
+abbrev pub filter : (LocalLinearization → Bool) → List LocalLinearization → List LocalLinearization
+filter p [] = []
+filter p (b ∷ bs) = cond (p b) (b ∷ filter p bs) (filter p bs)

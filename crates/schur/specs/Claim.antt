@@ -10,7 +10,7 @@ use Rattle.linearization.specs.declared.linearize.LocalLinearization.{LocalLine
 use Rattle.schur.specs.declared.system.ReducedSystem.{ReducedSystem}
 use Rattle.schur.specs.declared.system.Added.{Added}
 use Rattle.schur.specs.System.{newSystem}
-use Rattle.schur.specs.Calls.{Call, added, results, after, afterBlocks, Tally, start, factors, smallRcond, atZero, tally, refusals, blocksIn, every, those}
+use Rattle.schur.specs.Calls.{Call, added, results, after, afterBlocks, Tally, start, factors, smallRcond, atZero, tally, refusals, blocksIn, all, filter}
 
 -- each handed-back system is what the definition of `add` gives for the call and the system handed back before
 abbrev pub CallByCall : Float → ReducedSystem → List Call → List Added → Type 0
@@ -27,7 +27,7 @@ final s (r ∷ rs) = final (r .system) rs
 pub record Figures (d : Float) (calls : List Call) (ran : List Added) : Type 0 where
   pub each : ran ≡ results d newSystem calls
   pub last : final newSystem ran ≡ after d newSystem calls
-  pub traceless : final newSystem ran ≡ afterBlocks d newSystem (blocksIn 0 calls)
+  pub blocks-alone : final newSystem ran ≡ afterBlocks d newSystem (blocksIn 0 calls)
 
 pub record Tallied (d : Float) (calls : List Call) (t : Tally) : Type 0 where
   pub flag : after d newSystem calls .valid ≡ t .flag
@@ -42,7 +42,7 @@ pub record SameEquations (s t : ReducedSystem) : Type 0 where
 
 pub record WeakCount (d : Float) (weak : ℕ) (blocks : List LocalLinearization) : Type 0 where
   pub undamped : atZero d ≡ true
-      → weak ≡ length (those (λ b. not (factors d b)) blocks) + length (those (λ b. factors d b && smallRcond d b) blocks)
+      → weak ≡ length (filter (λ b. not (factors d b)) blocks) + length (filter (λ b. factors d b && smallRcond d b) blocks)
   pub damped : atZero d ≡ false → weak ≡ 0
 
 pub record Further (s t : ReducedSystem) : Type 0 where
@@ -55,7 +55,7 @@ pub record Further (s t : ReducedSystem) : Type 0 where
 pub record Claim (d : Float) (calls : List Call) : Type 0 where
   pub figures : (ran : List Added) → CallByCall d newSystem calls ran → Figures d calls ran
   pub tallied : Tallied d calls (tally d start calls)
-  pub flag : after d newSystem calls .valid ≡ every (factors d) (blocksIn 0 calls)
-  pub elimination : SameEquations (after d newSystem calls) (afterBlocks d newSystem (those (factors d) (blocksIn 0 calls)))
+  pub flag : after d newSystem calls .valid ≡ all (factors d) (blocksIn 0 calls)
+  pub elimination : SameEquations (after d newSystem calls) (afterBlocks d newSystem (filter (factors d) (blocksIn 0 calls)))
   pub weak : WeakCount d (after d newSystem calls .«weak_point_count») (blocksIn 0 calls)
   pub further : (more : List Call) → Further (after d newSystem calls) (after d newSystem (calls ++ more))

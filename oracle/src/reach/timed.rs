@@ -156,7 +156,7 @@ impl OwnFactor {
     /// `PointBlockFactor::new` and `reciprocal_condition_number`; row 3 first.
     #[inline(never)]
     pub fn new(matrix: &[[f64; 3]; 3], damping: f64) -> Option<Self> {
-        if !(damping.is_finite() && damping >= 0.0) {
+        if !crate::point_block::good_damping(damping) {
             return None;
         }
         let factor = PointBlockFactor::new(matrix, damping)?;

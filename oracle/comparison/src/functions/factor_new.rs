@@ -17,7 +17,7 @@ pub const FUNCTION: Function = Function {
     port: |lent, rooms| slices::factor_new(lent.numbers(0), lent.number(1), rooms.numbers[0]),
     oracle: |input| {
         let (matrix, damping) = (input.numbers(0), input.number(1));
-        if !(damping.is_finite() && damping >= 0.0) {
+        if !point_block::good_damping(damping) {
             return Answer::row(3);
         }
         point_block::new(&matrix, damping).map_or(Answer::row(10), |inverse| {

@@ -1,5 +1,6 @@
 //! The point step: row 3, then `point_step_with_damping_norm` of schur.rs.
 
+use oracle::point_block;
 use oracle::schur::{self, Block};
 use pixel_step::slices;
 
@@ -28,7 +29,7 @@ pub const FUNCTION: Function = Function {
     },
     oracle: |input| {
         let (block, damping) = (Block::from_numbers(&input.numbers(0)), input.number(1));
-        if !(damping.is_finite() && damping >= 0.0) {
+        if !point_block::good_damping(damping) {
             return Answer::row(3);
         }
         schur::point_step_with_damping_norm(&block, damping, &input.numbers(2))

@@ -1,6 +1,7 @@
 //! `ReducedSystem::add` of schur.rs behind rows 3, 12 and 13, with a count of
 //! the blocks.
 
+use oracle::point_block;
 use oracle::schur::{Block, System};
 use oracle::zeros;
 use pixel_step::slices;
@@ -36,7 +37,7 @@ pub const FUNCTION: Function = Function {
 fn added(input: &Input, add: fn(&System, &Block, f64) -> System) -> Answer {
     let [weak, blocks, _] = input.counts(1);
     let (block, damping) = (Block::from_numbers(&input.numbers(2)), input.number(3));
-    if !(damping.is_finite() && damping >= 0.0) {
+    if !point_block::good_damping(damping) {
         return Answer::row(3);
     }
     if weak > blocks {

@@ -1,5 +1,6 @@
 //! `ReducedSystem::finish_damping` of schur.rs behind row 3.
 
+use oracle::point_block;
 use pixel_step::slices;
 
 use crate::function::{Answer, Function, count_state, number, state};
@@ -25,7 +26,7 @@ pub const FUNCTION: Function = Function {
     },
     oracle: |input| {
         let ([_, blocks, _], damping) = (input.counts(1), input.number(2));
-        if !(damping.is_finite() && damping >= 0.0) {
+        if !point_block::good_damping(damping) {
             return Answer::row(3);
         }
         systems::answer(&systems::given(input).finish_damping(damping), blocks)

@@ -1,5 +1,6 @@
 //! `ReducedSystem::predicted_reduction` of schur.rs behind row 3.
 
+use oracle::point_block;
 use pixel_step::slices;
 
 use crate::function::{Answer, Function, counts, lent, number, room};
@@ -33,7 +34,7 @@ pub const FUNCTION: Function = Function {
     },
     oracle: |input| {
         let (damping, norm) = (input.number(3), input.number(4));
-        if !(damping.is_finite() && damping >= 0.0) {
+        if !point_block::good_damping(damping) {
             return Answer::row(3);
         }
         let system = systems::given(input);

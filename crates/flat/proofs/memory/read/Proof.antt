@@ -15,7 +15,7 @@ same-length : tie.Need-same-length
 same-length c = search needs
 
 returns-3 : tie.Need-returns-3
-returns-3 c = λ h. c .before .before .store .ensures (part-length _ _ _ h)
+returns-3 c = λ h. c .before .before .store .ensures .fits (part-length _ _ _ h)
 
 pub read-spec : {M : Type 1} → statement M
 read-spec =

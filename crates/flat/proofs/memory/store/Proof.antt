@@ -1,5 +1,5 @@
 -- `flat::memory::store` meets its contract. Assumes nothing.
-use mathlib.Core.Path.{_∙_}
+use mathlib.Core.Path.{refl, _∙_}
 use Rattle.flat.proofs.Laws.{put-all}
 use native.Mathlib.Omega.{arith}
 use borrow.Author.Needs.{needs}
@@ -10,10 +10,10 @@ same-length : tie.Need-same-length
 same-length c = search needs
 
 returns : tie.Need-returns
-returns c = λ e. c .before .before .copy .ensures ∙ put-all _ _ e
+returns c = record { fits = λ e. c .before .before .copy .ensures ∙ put-all _ _ e; leaves = λ n. absurd (n (c .before .before .before .before .if1 .taken)) }
 
 returns-2 : tie.Need-returns-2
-returns-2 c = λ e. absurd (c .if1 .left e)
+returns-2 c = record { fits = λ e. absurd (c .if1 .left e); leaves = λ n. refl }
 
 pub store-spec : {M : Type 1} → statement M
 store-spec =

@@ -7,13 +7,13 @@ use lib.ListN.{length}
 use Rattle.refusal.specs.Rows as Rows
 use Rattle.refusal.specs.Refused.{at}
 use Rattle.refusal.specs.First.{first}
-use Rattle.optimizer.specs.Checks.{deviationAt}
+use Rattle.optimizer.specs.Checks.{deviationRefused}
 use Rattle.refusal.proofs.Scans.{Scanned, begins, ends, goes-on, leaves, is-good, is-bad, bad, row-refuses}
 use Rattle.optimizer.proofs.checks.deviations_refused.Statement.{statement}
 use Rattle.optimizer.proofs.checks.deviations_refused.Tie as tie
 
 abbrev Inv-loop : tie.InvT-loop
-Inv-loop inverse-deviations i₀ i-end i = (i-end ≡ length inverse-deviations) × Scanned (first (deviationAt inverse-deviations) 0 (length inverse-deviations)) (deviationAt inverse-deviations) (length inverse-deviations) i
+Inv-loop inverse-deviations i₀ i-end i = (i-end ≡ length inverse-deviations) × Scanned (first (deviationRefused inverse-deviations) 0 (length inverse-deviations)) (deviationRefused inverse-deviations) (length inverse-deviations) i
 
 abbrev μ-loop : tie.MeasureT-loop
 μ-loop inverse-deviations i₀ i-end i = i-end - i

@@ -7,13 +7,13 @@ use Rattle.number.specs.Vectors.{allFinite}
 use Rattle.refusal.specs.Rows as Rows
 use Rattle.refusal.specs.Refused.{at}
 use Rattle.refusal.specs.First.{first}
-use Rattle.optimizer.specs.Checks.{pointAt}
+use Rattle.optimizer.specs.Checks.{pointRefused}
 use Rattle.refusal.proofs.Scans.{Scanned, begins, ends, goes-on, leaves, is-good, is-bad, bad, row-refuses}
 use Rattle.optimizer.proofs.checks.points_refused.Statement.{statement}
 use Rattle.optimizer.proofs.checks.points_refused.Tie as tie
 
 abbrev Inv-loop : tie.InvT-loop
-Inv-loop points n i₀ i = Scanned (first (pointAt points) 0 n) (pointAt points) n i
+Inv-loop points n i₀ i = Scanned (first (pointRefused points) 0 n) (pointRefused points) n i
 
 abbrev μ-loop : tie.MeasureT-loop
 μ-loop points n i₀ i = n - i

@@ -7,7 +7,7 @@ use lib.ListN.{length}
 use Rattle.refusal.specs.Rows as Rows
 use Rattle.refusal.specs.Refused.{at, none, isNone}
 use Rattle.refusal.specs.First.{first}
-use Rattle.optimizer.specs.Checks.{viewAt, projectionAt}
+use Rattle.optimizer.specs.Checks.{viewRefused, projectionRefused}
 use Rattle.refusal.proofs.Scans.{Scanned, begins, ends, goes-on, leaves, is-good, is-bad, bad, row-refuses, none-refuses}
 use Rattle.optimizer.proofs.Parts.{seen-length, view-test}
 use Rattle.optimizer.proofs.checks.projections_refused.Statement.{statement}
@@ -15,14 +15,14 @@ use Rattle.optimizer.proofs.checks.projections_refused.Tie as tie
 
 abbrev Inv-loop : tie.InvT-loop
 Inv-loop points view1 view2 n rig place₀ i point view₀ place view =
-    (1 ≤ view) × (place ≡ none) × Scanned (projectionAt rig points view1 view2 i) (viewAt rig points view1 view2 i) 3 view
+    (1 ≤ view) × (place ≡ none) × Scanned (projectionRefused rig points view1 view2 i) (viewRefused rig points view1 view2 i) 3 view
 
 abbrev μ-loop : tie.MeasureT-loop
 μ-loop points view1 view2 n rig place₀ i point view₀ place view = 3 - view
 
 abbrev Inv-points : tie.InvT-points
 Inv-points points view1 view2 n rig place₀ i₀ place i =
-    (place ≡ none) × Scanned (first (projectionAt rig points view1 view2) 0 n) (projectionAt rig points view1 view2) n i
+    (place ≡ none) × Scanned (first (projectionRefused rig points view1 view2) 0 n) (projectionRefused rig points view1 view2) n i
 
 abbrev μ-points : tie.MeasureT-points
 μ-points points view1 view2 n rig place₀ i₀ place i = n - i

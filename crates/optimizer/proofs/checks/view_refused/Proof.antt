@@ -7,13 +7,13 @@ use Rattle.number.specs.Vectors.{allFinite}
 use Rattle.refusal.specs.Rows as Rows
 use Rattle.refusal.specs.Refused.{at}
 use Rattle.refusal.specs.First.{first}
-use Rattle.optimizer.specs.Checks.{observationAt}
+use Rattle.optimizer.specs.Checks.{observationRefused}
 use Rattle.refusal.proofs.Scans.{Scanned, begins, ends, goes-on, leaves, is-good, is-bad, bad, row-refuses}
 use Rattle.optimizer.proofs.checks.view_refused.Statement.{statement}
 use Rattle.optimizer.proofs.checks.view_refused.Tie as tie
 
 abbrev Inv-loop : tie.InvT-loop
-Inv-loop view number n i₀ i = Scanned (first (observationAt number view) 0 n) (observationAt number view) n i
+Inv-loop view number n i₀ i = Scanned (first (observationRefused number view) 0 n) (observationRefused number view) n i
 
 abbrev μ-loop : tie.MeasureT-loop
 μ-loop view number n i₀ i = n - i

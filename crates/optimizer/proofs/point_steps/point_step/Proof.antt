@@ -8,7 +8,7 @@ use Rattle.optimizer.proofs.point_steps.point_step.Tie as tie
 
 returns : tie.Need-returns
 unfolding pointStepOf pointStep
-returns c = rw (c .step-of-terms .ensures, c .before .terms-of .ensures) refl
+returns c = rw (c .step-of-terms .ensures, c .before .point-terms-of .ensures) refl
 
 pub point-step-spec : {M : Type 1} → statement M
 point-step-spec =

@@ -23,7 +23,7 @@ returns-2 c =
     let n = c .before .before .before .before .before .before .before .before .is-none .ensures in
     let t = c .before .before .before .before .before .before .before .if1 .left in (
       c .code2 .ensures,
-      stored-some _ _ _ _ n _ t (c .before .before .before .store .ensures (sized (c .before .before .before .before) ∙ sym (start .pre .0)) ∙ c .before .before .before .before .before .before .step-numbers .ensures),
+      stored-some _ _ _ _ n _ t (c .before .before .before .store .ensures .fits (sized (c .before .before .before .before) ∙ sym (start .pre .0)) ∙ c .before .before .before .before .before .before .step-numbers .ensures),
       stored-some _ _ _ _ n _ t (one-set (start .args .weak .now) _ (start .pre .1)),
     )
 

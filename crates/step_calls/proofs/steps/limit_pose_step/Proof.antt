@@ -1,7 +1,7 @@
 -- `step_calls::steps::limit_pose_step` meets its contract. Assumes nothing.
 use mathlib.Core.Path.{_≡_, sym, ap, _∙_}
 use lib.ListN.{length}
-use Rattle.optimizer.specs.Step as Step
+use Rattle.pose_step.specs.PoseStep as PoseStep
 use Rattle.step_calls.specs.Calls.{limitPoseStep}
 use Rattle.flat.proofs.Laws.{whole, too-short, answers, two-fit}
 use borrow.Author.Needs.{needs}
@@ -23,7 +23,7 @@ returns-2 : tie.Need-returns-2
 unfolding limitPoseStep
 returns-2 c =
     let f = fit (c .before .before .before .before .before .before .before .before) in
-    answers _ _ _ _ _ _ _ _ (c .before .before .before .before .before .before .before .before .if1 .left) (c .before .before .before .before .before .none .ensures) (c .before .before .before .before .before .before .limit-pose-step .ensures ∙ ap Step.limitPoseStep (whole _ 5 _ (f .0) (c .before .before .before .before .before .before .before .vector5 .ensures))) (sized (c .before .before .before) ∙ sym (f .1)) (c .before .before .answer .ensures)
+    answers _ _ _ _ _ _ _ _ (c .before .before .before .before .before .before .before .before .if1 .left) (c .before .before .before .before .before .none .ensures) (c .before .before .before .before .before .before .limit-pose-step .ensures ∙ ap PoseStep.limitPoseStep (whole _ 5 _ (f .0) (c .before .before .before .before .before .before .before .vector5 .ensures))) (sized (c .before .before .before) ∙ sym (f .1)) (c .before .before .answer .ensures)
 
 pub limit-pose-step-spec : {M : Type 1} → statement M
 limit-pose-step-spec =

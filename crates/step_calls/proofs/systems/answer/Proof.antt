@@ -45,7 +45,7 @@ returns-2 c =
     let t = c .before .before .before .before .before .before .before .before .if1 .left in
     let p = c .before .before .before .before in (
       c .code2 .ensures,
-      stored-some _ _ _ _ n _ t (p .store .ensures (sized (p .before) ∙ sym (h .0)) ∙ c .before .before .before .before .before .before .before .system-numbers .ensures),
+      stored-some _ _ _ _ n _ t (p .store .ensures .fits (sized (p .before) ∙ sym (h .0)) ∙ c .before .before .before .before .before .before .before .system-numbers .ensures),
       stored-some _ _ _ _ n _ t (three-set (start .args .counts .now) _ _ _ (h .1) ∙ ap (λ (k : ℕ). s .«weak_point_count» ∷ s .«block_count» ∷ k ∷ []) (c .before .flag .ensures)),
     )
 
