@@ -1,6 +1,6 @@
 -- The whole step: what each way out of it gives. Assumes nothing.
 use mathlib.Core.Path.{_≡_, refl, sym, ap, _∙_, subst}
-use mathlib.Core.Bool.{Bool, true, false, not, cond, true≢false}
+use mathlib.Core.Bool.{Bool, true, false, not, true≢false}
 use mathlib.Core.List.{List}
 use Prim.Native.Nat.{ℕ, _*_}
 use borrow.Author.Tests.{not-true, not-false, eqb-true}
@@ -8,7 +8,7 @@ use lib.Dec.{T, eqb, leb}
 use lib.ListN.{length}
 use lib.Ieee.{Float}
 use Rattle.refusal.specs.Rows as Rows
-use Rattle.refusal.specs.First.{unless, orElse}
+use Rattle.refusal.specs.First.{unless}
 use Rattle.refusal.specs.Refused.{of, none, isNone}
 use Rattle.refusal.specs.declared.Refusal.{Refusal}
 use Rattle.point_block.specs.Lone.{goodDamping}

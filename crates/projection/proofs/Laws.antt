@@ -2,11 +2,11 @@
 use mathlib.Core.Path.{_≡_, refl}
 use mathlib.Core.Bool.{Bool, true, false, not, _&&_, cond}
 use borrow.Author.Tests.{not-true, not-false}
-use mathlib.Core.List.{List, [], _∷_}
+use mathlib.Core.List.{List}
 use lib.Dec.{T}
-use lib.Ieee.{Float, le, ofBits}
+use lib.Ieee.{Float, le}
 use Rattle.number.specs.Binary64.{_⊗_, zero, epsilon64}
-use Rattle.number.specs.Parts.{isFinite, nonneg, abs}
+use Rattle.number.specs.Parts.{isFinite, abs}
 use Rattle.number.specs.Extrema.{larger}
 use Rattle.number.specs.Vectors.{_!_}
 use Rattle.number.proofs.Order.{largest-three}

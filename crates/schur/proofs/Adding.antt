@@ -1,6 +1,6 @@
 -- The answers of `add` and what it calls, by the tests that lead to each. Assumes nothing.
 use mathlib.Core.Path.{_≡_, refl}
-use mathlib.Core.Bool.{Bool, true, false, not, cond}
+use mathlib.Core.Bool.{Bool, true, false, not}
 use mathlib.Core.List.{List}
 use Prim.Native.Nat.{ℕ, _+_, _<_, _≤_}
 use native.Mathlib.Numerals.{add-one}
@@ -22,7 +22,7 @@ use Rattle.normal_equations.specs.Elimination.{reducedHessian, reducedGradient,
 use Rattle.normal_equations.specs.GradientNorm.{pointGradientNorm}
 use Rattle.normal_equations.specs.PoseModel.{dampedHessian, sum5, diagonal5}
 use Rattle.schur.specs.Model.{withHessian, finishDamping, reductionOf, predictedReduction}
-use Rattle.schur.specs.System.{maxBlocks, raised, isWeak, notEliminated, eliminated, elimination, takenWith, taken, add}
+use Rattle.schur.specs.System.{maxBlocks, raised, notEliminated, eliminated, elimination, takenWith, taken, add}
 
 pub below : (m n : ℕ) → not (ltb m n) ≡ false → m < n
 below m n h = ltb→lt m n (rw (not-false (ltb m n) h) tt)

@@ -2,7 +2,6 @@
 use mathlib.Core.Path.{refl}
 use Rattle.solver.specs.Solver.{backward}
 use native.Mathlib.Omega.{arith}
-use borrow.Author.Needs.{needs}
 use Rattle.solver.proofs.backward.Statement.{statement}
 use Rattle.solver.proofs.backward.Tie as tie
 

@@ -2,7 +2,6 @@
 use mathlib.Core.Path.{refl}
 use Rattle.solver.specs.Solver.{forward}
 use native.Mathlib.Omega.{arith}
-use borrow.Author.Needs.{needs}
 use Rattle.solver.proofs.forward.Statement.{statement}
 use Rattle.solver.proofs.forward.Tie as tie
 

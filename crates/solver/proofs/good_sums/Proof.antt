@@ -1,7 +1,6 @@
 -- `solver::good_sums` meets its contract. Assumes nothing.
 use mathlib.Core.Path.{refl}
 use Rattle.solver.specs.Solver.{goodSums}
-use native.Mathlib.Omega.{arith}
 use borrow.Author.Needs.{needs}
 use Rattle.solver.proofs.good_sums.Statement.{statement}
 use Rattle.solver.proofs.good_sums.Tie as tie

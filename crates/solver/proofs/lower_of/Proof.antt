@@ -1,6 +1,5 @@
 -- `solver::lower_of` meets its contract. Assumes nothing.
 use Rattle.solver.proofs.Laws.{lower-is}
-use native.Mathlib.Omega.{arith}
 use borrow.Author.Needs.{needs}
 use Rattle.solver.proofs.lower_of.Statement.{statement}
 use Rattle.solver.proofs.lower_of.Tie as tie

@@ -1,7 +1,6 @@
 -- `solver::solution` meets its contract. Assumes nothing.
 use mathlib.Core.Path.{refl}
 use Rattle.solver.specs.Solver.{solution}
-use native.Mathlib.Omega.{arith}
 use borrow.Author.Needs.{needs}
 use Rattle.solver.proofs.solution.Statement.{statement}
 use Rattle.solver.proofs.solution.Tie as tie

@@ -1,6 +1,5 @@
 -- `solver::solve_positive_definite` meets its contract. Assumes nothing.
 use Rattle.solver.proofs.Laws.{solved, not-solved}
-use native.Mathlib.Omega.{arith}
 use borrow.Author.Needs.{needs}
 use Rattle.solver.proofs.solve_positive_definite.Statement.{statement}
 use Rattle.solver.proofs.solve_positive_definite.Tie as tie
