@@ -21,6 +21,7 @@ pub use extrema::max;
 pub use extrema::min;
 pub use parts::abs;
 pub use parts::all_finite;
+pub use parts::entry;
 pub use parts::is_finite;
 pub use parts::recip;
 pub use root::sqrt;

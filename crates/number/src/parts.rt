@@ -1,8 +1,9 @@
-// The absolute value, the test for a finite value, and the reciprocal.
+// The absolute value, the test for a finite value, the reciprocal, and an entry of a list.
 ghost use mathlib.Core.Path.{_≡_};
 ghost use Rattle.number.specs.Binary64 as Binary64;
 ghost use Rattle.number.specs.Parts as Parts;
 ghost use Rattle.number.specs.Vectors as Vectors;
+ghost use Rattle.number.specs.Vectors.{_!_};
 
 // `f64::abs`. The difference from 0 gives +0 for either zero, where a change of sign would turn +0
 // into −0.
@@ -36,4 +37,15 @@ pub fn recip(x: f64) -> f64
     ensures { λ r. ⌜ r ≡ Binary64.recip x ⌝ }
 {
     1.0 / x
+}
+
+// The entry at i; beyond the end a NaN, as in the definitions
+pub fn entry(values: &[f64], i: usize) -> f64
+    ensures { λ r. ⌜ r ≡ now (values .entry) ! i ⌝ }
+{
+    if i < values.len() {
+        values[i]
+    } else {
+        0.0 / 0.0
+    }
 }
