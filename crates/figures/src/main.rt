@@ -8,9 +8,9 @@ mod steps;
 mod systems;
 
 fn main() {
-    show::named(b"root of 4", number::sqrt(4.0));
-    show::named(b"root of 2", number::sqrt(2.0));
-    show::named(b"root of -0", number::sqrt(-0.0));
+    show::named(b"root of 4", root::sqrt(4.0));
+    show::named(b"root of 2", root::sqrt(2.0));
+    show::named(b"root of -0", root::sqrt(-0.0));
     projections::print();
     blocks::print();
     systems::print();

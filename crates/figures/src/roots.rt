@@ -17,6 +17,6 @@ pub fn print(text: &[u8]) {
 fn root(b: u64) {
     show::text(b"sqrt");
     show::pattern(b);
-    show::pattern(number::to_bits(number::sqrt(number::from_bits(b))));
+    show::pattern(number::to_bits(root::sqrt(number::from_bits(b))));
     show::end();
 }

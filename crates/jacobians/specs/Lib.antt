@@ -1,3 +1,2 @@
--- The derivatives of a point's two views, and the sums of their products: schur.rs.
+-- The derivatives of a point's two views: schur.rs.
 pub mod Jacobians
-pub mod Accumulate

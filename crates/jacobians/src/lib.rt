@@ -1,7 +1,87 @@
 // SPDX-FileCopyrightText: 2026 Pierre Moulon and OpenMVG Rust contributors
 // SPDX-License-Identifier: MIT OR Apache-2.0
 
-// How what the two cameras see of a point moves with the pose and with the point, and the sums of
-// products of these derivatives that make a block: kernel/two_view/schur.rs.
-pub mod accumulate;
-pub mod derivatives;
+// How a point moves into the second camera's frame, and how its two coordinates in the image move
+// with the pose and with the point.
+ghost use mathlib.Core.Path.{_≡_};
+ghost use Rattle.projection.specs.Pose as Pose;
+ghost use Rattle.jacobians.specs.Jacobians as Jacobians;
+
+pub fn rotate(rotation: [f64; 9], point: [f64; 3]) -> [f64; 3]
+    ensures { λ r. ⌜ r ≡ Pose.rotate rotation point ⌝ }
+{
+    let mut out = [0.0; 3];
+    for i in 0..3 {
+        let row = 3 * i;
+        out[i] = rotation[row] * point[0]
+            + rotation[row + 1] * point[1]
+            + rotation[row + 2] * point[2];
+    }
+    out
+}
+
+pub fn camera_point(rotated: [f64; 3], translation: [f64; 3]) -> [f64; 3]
+    ensures { λ r. ⌜ r ≡ Pose.cameraPoint rotated translation ⌝ }
+{
+    [
+        rotated[0] + translation[0],
+        rotated[1] + translation[1],
+        rotated[2] + translation[2],
+    ]
+}
+
+// How the turned point moves with the pose: three rows of five
+pub fn pose_motion_jacobian(rotated: [f64; 3], basis: [f64; 6], baseline: f64) -> [f64; 15]
+    ensures { λ r. ⌜ r ≡ Jacobians.poseMotionJacobian rotated basis baseline ⌝ }
+{
+    [
+        0.0,
+        rotated[2],
+        -rotated[1],
+        baseline * basis[0],
+        baseline * basis[3],
+        -rotated[2],
+        0.0,
+        rotated[0],
+        baseline * basis[1],
+        baseline * basis[4],
+        rotated[1],
+        -rotated[0],
+        0.0,
+        baseline * basis[2],
+        baseline * basis[5],
+    ]
+}
+
+// Two rows of the Jacobian times five columns of the motion; each sum begins at −0.
+pub fn pose_jacobian(j: [f64; 6], m: [f64; 15]) -> [f64; 10]
+    ensures { λ r. ⌜ r ≡ Jacobians.poseJacobian j m ⌝ }
+{
+    let mut out = [0.0; 10];
+    for k in 0..10 {
+        let row = 3 * (k / 5);
+        let column = k % 5;
+        out[k] = -0.0
+            + j[row] * m[column]
+            + j[row + 1] * m[5 + column]
+            + j[row + 2] * m[10 + column];
+    }
+    out
+}
+
+// Two rows of the Jacobian times the rotation, scaled by the baseline; each sum begins at −0.
+pub fn point_jacobian(j: [f64; 6], r: [f64; 9], baseline: f64) -> [f64; 6]
+    ensures { λ x. ⌜ x ≡ Jacobians.pointJacobian j r baseline ⌝ }
+{
+    let mut out = [0.0; 6];
+    for k in 0..6 {
+        let row = 3 * (k / 3);
+        let column = k % 3;
+        let sum = -0.0
+            + j[row] * r[column]
+            + j[row + 1] * r[3 + column]
+            + j[row + 2] * r[6 + column];
+        out[k] = sum * baseline;
+    }
+    out
+}

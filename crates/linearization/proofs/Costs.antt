@@ -9,7 +9,8 @@ use Rattle.number.specs.Binary64.{_⊕_, _⊗_, zero}
 use Rattle.number.specs.Parts.{isFinite, nonneg}
 use Rattle.number.specs.Vectors.{_!_}
 use Rattle.number.proofs.Order.{not-lt, nonneg-add, nonneg-not-nan, nonneg-square}
-use Rattle.number.proofs.Monotone.{nonneg-zero, finite-not-nan, nonneg-mul-weight, nonneg-half-square, nonneg-sum-squares}
+use Rattle.number.proofs.Monotone.{nonneg-zero, finite-not-nan, nonneg-mul-weight, nonneg-half-square}
+use Rattle.root.proofs.Signs.{nonneg-sum-squares}
 use Rattle.refusal.specs.Rows as Rows
 use Rattle.refusal.specs.Refused.{at, of, isNone}
 use Rattle.refusal.specs.declared.Refusal.{Refusal}

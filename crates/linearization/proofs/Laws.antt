@@ -17,7 +17,7 @@ use Rattle.linearization.specs.declared.views.Pose.{Pose}
 use Rattle.linearization.specs.declared.views.Correspondence.{Correspondence}
 use Rattle.linearization.specs.declared.views.LinearizedViews.{LinearizedViews}
 use Rattle.linearization.specs.Views.{goodDeviation, notSeen, weightedViews, linearizeViews}
-use Rattle.jacobians.specs.Accumulate.{poseHessian, poseGradient}
+use Rattle.accumulate.specs.Accumulate.{poseHessian, poseGradient}
 use Rattle.linearization.specs.Linearize.{notMade, poseRows, sums, block, linearizePoint, terms, pointTerms}
 
 module _ (camera1 camera2 : PinholeCamera) (pose : Pose) (correspondence : Correspondence) (g : Bool) (t : g ≡ goodDeviation (correspondence .«inverse_deviation»)) where

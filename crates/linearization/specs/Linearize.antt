@@ -16,7 +16,7 @@ use Rattle.linearization.specs.declared.views.View2.{View2}
 use Rattle.linearization.specs.declared.views.LinearizedViews.{LinearizedViews}
 use Rattle.linearization.specs.Loss.{norm, lossCost}
 use Rattle.linearization.specs.Views.{linearizeViews}
-use Rattle.jacobians.specs.Accumulate.{poseHessian, crossHessian, pointHessian, poseGradient, pointGradient}
+use Rattle.accumulate.specs.Accumulate.{poseHessian, crossHessian, pointHessian, poseGradient, pointGradient}
 
 -- every number beside a refusal is +0
 unfoldable pub notMade : Refusal → LocalLinearization

@@ -2,7 +2,7 @@
 use mathlib.Core.List.{List, [], _∷_}
 use lib.Ieee.{Float}
 use Rattle.number.specs.Binary64.{_⊗_, half, one}
-use Rattle.number.specs.Root.{sqrt}
+use Rattle.root.specs.Root.{sqrt}
 use Rattle.number.specs.Vectors.{_!_, sum}
 
 abbrev pub norm : List Float → Float

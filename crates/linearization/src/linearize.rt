@@ -10,7 +10,6 @@ use crate::views;
 use crate::views::Correspondence;
 use crate::views::LinearizedViews;
 use crate::views::Pose;
-use jacobians::accumulate;
 use projection::PinholeCamera;
 use refusal::Refusal;
 

@@ -9,7 +9,7 @@ ghost use Rattle.linearization.specs.Loss as Loss;
 pub fn norm(residual: [f64; 2]) -> f64
     ensures { λ r. ⌜ r ≡ Loss.norm residual ⌝ }
 {
-    number::sqrt(-0.0 + residual[0] * residual[0] + residual[1] * residual[1])
+    root::sqrt(-0.0 + residual[0] * residual[0] + residual[1] * residual[1])
 }
 
 // The weight of a view's rows: the inverse deviation times the root of the loss's weight. Plain

@@ -11,7 +11,6 @@ use crate::views::Correspondence;
 use crate::views::Pose;
 use crate::views::View1;
 use crate::views::View2;
-use jacobians::accumulate;
 use projection::PinholeCamera;
 use refusal::Refusal;
 

@@ -7,7 +7,6 @@ ghost use mathlib.Core.Path.{_≡_};
 ghost use lib.ListN.{length};
 ghost use Rattle.linearization.specs.Views as Views;
 use crate::loss;
-use jacobians::derivatives;
 use projection::PinholeCamera;
 use projection::Projected;
 use refusal::Refusal;
@@ -73,12 +72,12 @@ pub fn linearize_views(
     }
     let rotation = pose.rotation;
     let translation = pose.translation;
-    let rotated = derivatives::rotate(rotation, point);
+    let rotated = jacobians::rotate(rotation, point);
     let view2 = correspondence.view2;
     let second = projection::pixel_projection(
         camera2,
         view2,
-        derivatives::camera_point(rotated, translation),
+        jacobians::camera_point(rotated, translation),
     );
     let refusal2 = second.refusal;
     if !refusal2.is_none() {
@@ -155,9 +154,9 @@ fn second_rows(second: Projected, rotated: [f64; 3], pose: Pose, weight: f64) ->
     let jacobian = second.jacobian;
     let rotation = pose.rotation;
     let basis = pose.basis;
-    let motion = derivatives::pose_motion_jacobian(rotated, basis, pose.baseline);
-    let by_pose = derivatives::pose_jacobian(jacobian, motion);
-    let by_point = derivatives::point_jacobian(jacobian, rotation, pose.baseline);
+    let motion = jacobians::pose_motion_jacobian(rotated, basis, pose.baseline);
+    let by_pose = jacobians::pose_jacobian(jacobian, motion);
+    let by_point = jacobians::point_jacobian(jacobian, rotation, pose.baseline);
     second_view(residual, by_pose, by_point, weight)
 }
 

@@ -1,4 +1,4 @@
--- Proofs that belong to no one function: laws of the definitions, which other crates cite, and the root's theorem (`Correct`).
+-- Laws of the definitions, which other crates cite.
 pub mod Values
 pub mod Specials
 pub mod Differences
@@ -7,7 +7,3 @@ pub mod Order
 pub mod Monotone
 pub mod Finite
 pub mod Fill
-pub mod Whole
-pub mod Patterns
-pub mod Rounded
-pub mod Correct

@@ -1,4 +1,4 @@
--- The order is transitive, a sum of values clear of the sign never falls, and some products and roots stay clear of the sign. Assumes nothing.
+-- The order is transitive, a sum of values clear of the sign never falls, and some products stay clear of the sign. Assumes nothing.
 use mathlib.Core.Path.{_≡_, refl, sym, ap₂, _∙_, subst}
 use mathlib.Core.Bool.{Bool, true, false, not, cond}
 use Prim.Native.Nat.{ℕ, zero, suc, _+_, _-_, _*_, _≤_, _<_}
@@ -9,13 +9,12 @@ use borrow.Author.Tests.{le-ltb, ltb-false}
 use lib.IntN.{ℤ, pos, negsuc}
 use lib.Dec.{T, ltb, eqb·suc-zero, ltb→lt, nltb→le}
 use lib.Ieee.{Float, nan, inf, fin, Format, binary32, binary64, up, down, below, round, neg, add, mul, ofBits, lt, le, fits, isNan}
-use lib.Ieee.Fits.{down-pos, mul-fits}
+use lib.Ieee.Fits.{down-pos}
 use lib.Ieee.Order.{round-mono}
 use Rattle.number.specs.Binary64.{_⊕_, _⊗_, half, negZero}
 use Rattle.number.specs.Parts.{isFinite, nonneg}
-use Rattle.number.specs.Root.{sqrt}
 use Rattle.number.proofs.Values.{round-value, round-zero}
-use Rattle.number.proofs.Order.{not-lt, nonneg-above, nonneg-add, nonneg-square, nonneg-mul-positive, nonneg-sqrt}
+use Rattle.number.proofs.Order.{not-lt, nonneg-above, nonneg-mul-positive}
 
 -- ---- the order is transitive, with nothing asked: `le` is false where a NaN stands
 
@@ -214,9 +213,3 @@ unfolding isFinite isNan
 finite-not-nan nan h = h
 finite-not-nan (inf s) h = tt
 finite-not-nan (fin s m e) h = tt
-
-pub nonneg-sum-squares : (x y : Float) → T (isFinite x) → T (isFinite y) → T (nonneg (sqrt (negZero ⊕ x ⊗ x ⊕ y ⊗ y)))
-nonneg-sum-squares x y p q =
-    nonneg-sqrt (negZero ⊕ x ⊗ x ⊕ y ⊗ y)
-    (nonneg-add binary64 (negZero ⊕ x ⊗ x) (y ⊗ y) (rw (negZero-add (x ⊗ x) (mul-fits binary64 x x)) (nonneg-square binary64 x (finite-not-nan x p)))
-    (nonneg-square binary64 y (finite-not-nan y q)))

@@ -17,7 +17,6 @@ use Rattle.number.specs.Binary64.{_⊗_, zero as zero·, epsilon64, reci
 use Rattle.number.specs.Parts.{isFinite, negative, nonneg, abs}
 use Rattle.number.specs.Extrema.{max, min, larger, Larger}
 use Rattle.number.specs.Vectors.{maxFrom, largest, largerFrom}
-use Rattle.number.specs.Root.{nearestRoot, sqrt}
 use Rattle.number.proofs.Values.{same-value}
 use Rattle.number.proofs.Picks.{pick-is, pick-has, pick-left, eq-number, lt-numbers}
 
@@ -239,7 +238,7 @@ pub nonneg-min : (x y : Float) → T (nonneg x) → T (nonneg y) → T (nonneg (
 unfolding min
 nonneg-min x y h k = pick-has _ _ x y (λ z. T (nonneg z)) (nonneg-not-nan y k) (λ l. h) (λ l m. h) (λ l. k)
 
--- ---- the absolute value and the root
+-- ---- the absolute value, and what is rounded
 
 pub nonneg-abs : (x : Float) → T (not (isNan x)) → T (nonneg (abs x))
 unfolding isNan abs nonneg
@@ -255,29 +254,13 @@ unfolding odd nonneg
 nonneg-odd d zero k l = tt
 nonneg-odd d (suc q) k l = tt
 
-nonneg-units : (f : Format) (q k : ℕ) → T (nonneg (units f false q k))
+pub nonneg-units : (f : Format) (q k : ℕ) → T (nonneg (units f false q k))
 unfolding units nonneg
 nonneg-units f q k = by (ltb (q * 2 ^ k) (2 ^ (low f + suc (emax f))))
   where
     by : (t : Bool) → T (nonneg (cond t (odd (suc (prec f)) false q k (low f)) (inf false)))
     by true = nonneg-odd (suc (prec f)) q k (low f)
     by false = tt
-
-nonneg-nearest-root : (n : ℕ) → T (nonneg (nearestRoot n))
-unfolding nearestRoot
-nonneg-nearest-root n = nonneg-units binary64 _ _
-
-pub nonneg-sqrt : (x : Float) → T (nonneg x) → T (nonneg (sqrt x))
-unfolding sqrt nonneg
-nonneg-sqrt nan h = absurd h
-nonneg-sqrt (inf true) h = absurd h
-nonneg-sqrt (inf false) h = tt
-nonneg-sqrt (fin s zero e) h = h
-nonneg-sqrt (fin true (suc m) e) h = absurd h
-nonneg-sqrt (fin false (suc m) e) h = nonneg-nearest-root _
-
-pub not-nan-sqrt : (x : Float) → T (nonneg x) → T (not (isNan (sqrt x)))
-not-nan-sqrt x h = nonneg-not-nan (sqrt x) (nonneg-sqrt x h)
 
 -- ---- sums and products
 

@@ -3,5 +3,3 @@ pub mod Binary64
 pub mod Parts
 pub mod Extrema
 pub mod Vectors
-pub mod Whole
-pub mod Root

@@ -1,7 +1,8 @@
 -- The parts of a value: its sign, its absolute value, whether it is finite, and its magnitude as a whole number.
 use Prim.Native.Nat.{ℕ, _*_, _/_, _^_}
-use mathlib.Core.Bool.{Bool, true, false, not}
-use lib.Ieee.{Float, nan, inf, fin, binary64, low, up, down}
+use mathlib.Core.Bool.{Bool, true, false, not, _&&_}
+use lib.Ieee.{Float, nan, inf, fin, binary64, low, up, down, lt}
+use Rattle.number.specs.Binary64.{zero}
 
 -- whether the sign is set: true of −0 too
 unfoldable pub negative : Float → Bool
@@ -20,6 +21,9 @@ unfoldable pub isFinite : Float → Bool
 isFinite nan = false
 isFinite (inf s) = false
 isFinite (fin s m e) = true
+
+abbrev pub positiveFinite : Float → Bool
+positiveFinite x = isFinite x && lt zero x
 
 -- `f64::abs`: the sign is cleared, of a zero too
 unfoldable pub abs : Float → Float

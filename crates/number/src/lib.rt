@@ -12,7 +12,6 @@ pub const MIN_POSITIVE: f64 = 2.2250738585072014e-308;
 mod bits;
 mod extrema;
 mod parts;
-mod root;
 
 pub use bits::from_bits;
 pub use bits::to_bits;
@@ -23,5 +22,5 @@ pub use parts::abs;
 pub use parts::all_finite;
 pub use parts::entry;
 pub use parts::is_finite;
+pub use parts::positive_finite;
 pub use parts::recip;
-pub use root::sqrt;

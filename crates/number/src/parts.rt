@@ -20,6 +20,12 @@ pub fn is_finite(x: f64) -> bool
     x - x == 0.0
 }
 
+pub fn positive_finite(x: f64) -> bool
+    ensures { λ r. ⌜ r ≡ Parts.positiveFinite x ⌝ }
+{
+    is_finite(x) & (0.0 < x)
+}
+
 // Whether every entry is finite
 pub fn all_finite(values: &[f64]) -> bool
     ensures { λ r. ⌜ r ≡ Vectors.allFinite (now (values .entry)) ⌝ }

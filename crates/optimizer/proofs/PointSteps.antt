@@ -15,7 +15,7 @@ use Rattle.refusal.specs.Refused.{none}
 use Rattle.point_block.specs.Lone.{goodDamping}
 use Rattle.point_block.proofs.Laws.{lone-factors}
 use Rattle.linearization.specs.Linearize.{pointTerms}
-use Rattle.normal_equations.specs.PoseModel.{dampedHessian}
+use Rattle.pose_model.specs.PoseModel.{dampedHessian}
 use Rattle.schur.specs.Model.{withHessian, finishDamping, isValid}
 use Rattle.point_step.specs.PointStep.{stepped, stepOfTerms, pointStep}
 use Rattle.schur.specs.System.{newSystem}

@@ -8,7 +8,7 @@ use lib.IntN.{pos}
 use lib.ListN.{length}
 use lib.Ieee.{Float, binary64, ofInt}
 use Rattle.number.specs.Binary64.{_⊕_, _⊘_, zero as zero·}
-use Rattle.number.specs.Root.{sqrt}
+use Rattle.root.specs.Root.{sqrt}
 use Rattle.number.specs.Vectors.{_!_, sum, tabulate}
 use Rattle.refusal.specs.Rows as Rows
 use Rattle.refusal.specs.First.{unless, orElse}

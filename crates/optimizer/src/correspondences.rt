@@ -8,7 +8,6 @@ ghost use lib.ListN.{length};
 ghost use Rattle.linearization.specs.Linearize as Linearize;
 ghost use Rattle.optimizer.specs.Problem as Problem;
 use crate::Rig;
-use jacobians::derivatives;
 use linearization::Correspondence;
 use linearization::LocalLinearization;
 use linearization::PointTerms;
@@ -91,7 +90,7 @@ pub(crate) fn project(rig: Rig, view: u32, observation: [f64; 2], point: [f64; 3
     if view == 1 {
         projection::pixel_projection(camera1, observation, point)
     } else {
-        let moved = derivatives::camera_point(derivatives::rotate(rotation, point), translation);
+        let moved = jacobians::camera_point(jacobians::rotate(rotation, point), translation);
         projection::pixel_projection(camera2, observation, moved)
     }
 }

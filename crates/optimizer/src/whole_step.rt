@@ -99,7 +99,7 @@ fn finished(
         gradient_norm: system.scaled_gradient_inf_norm(),
         weak_point_count: system.weak_point_count,
         minimum_point_rcond: system.minimum_point_rcond,
-        point_step_rms: number::sqrt(sums.squared / count),
+        point_step_rms: root::sqrt(sums.squared / count),
         point_damping_norm: norms,
         predicted_reduction: predicted.reduction,
         refusal: Refusal::none(),

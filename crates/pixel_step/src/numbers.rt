@@ -5,13 +5,13 @@ ghost use lib.Ieee.{binary64};
 ghost use Rattle.number.specs.Binary64 as Binary64;
 ghost use Rattle.number.specs.Extrema as Extrema;
 ghost use Rattle.number.specs.Parts as Parts;
-ghost use Rattle.number.specs.Root as Root;
+ghost use Rattle.root.specs.Root as Root;
 
 #[no_mangle]
 pub extern "C" fn pixel_step_sqrt(x: f64) -> f64
     ensures { λ r. ⌜ r ≡ Root.sqrt x ⌝ }
 {
-    number::sqrt(x)
+    root::sqrt(x)
 }
 
 #[no_mangle]

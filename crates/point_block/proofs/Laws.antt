@@ -9,7 +9,7 @@ use lib.Ieee.Bits.{is-true}
 use lib.Ieee.Fits.{and-l, and-r}
 use Rattle.number.specs.Binary64.{_⊗_, zero, epsilon64, recip}
 use Rattle.number.specs.Extrema.{larger, Larger}
-use Rattle.number.specs.Parts.{isFinite, nonneg}
+use Rattle.number.specs.Parts.{isFinite, nonneg, positiveFinite}
 use Rattle.number.specs.Vectors.{_!_}
 use Rattle.number.proofs.Order.{largest-three, nonneg-largest, nonneg-floor, nonneg-above, nonneg-recip}
 use Rattle.refusal.specs.Rows as Rows
@@ -20,7 +20,7 @@ use Rattle.point_block.specs.declared.DampedMatrix.{DampedMatrix}
 use Rattle.point_block.specs.declared.Cholesky.{Cholesky}
 use Rattle.point_block.specs.declared.PointBlockFactor.{PointBlockFactor}
 use Rattle.point_block.specs.declared.LoneFactor.{LoneFactor}
-use Rattle.point_block.specs.Damping.{largestDiagonal, floored, positiveFinite, dampingDiagonal, addedDiagonal, dampedMatrix}
+use Rattle.point_block.specs.Damping.{largestDiagonal, floored, dampingDiagonal, addedDiagonal, dampedMatrix}
 use Rattle.point_block.specs.Factor.{scaleOf, scaledOf, choleskyOf, goodPivots, inverseOf, notFactored, factorDamped}
 use Rattle.point_block.specs.Condition.{rowNorm, infinityNorm, inverseMatrix, reciprocalConditionNumber}
 use Rattle.point_block.specs.Lone.{factor, goodDamping, refused, loneFactor}

@@ -1,10 +1,10 @@
 -- The damping of a 3 by 3 point block, `damping_diagonal` and `damped_matrix` of point_block.rs. A matrix is nine numbers, row by row.
-use mathlib.Core.Bool.{Bool, _&&_, cond}
+use mathlib.Core.Bool.{cond}
 use mathlib.Core.List.{List, [], _∷_}
-use lib.Ieee.{Float, lt}
+use lib.Ieee.{Float}
 use Rattle.number.specs.Binary64.{_⊕_, _⊗_, zero, epsilon64}
 use Rattle.number.specs.Extrema.{max}
-use Rattle.number.specs.Parts.{isFinite}
+use Rattle.number.specs.Parts.{positiveFinite}
 use Rattle.number.specs.Vectors.{_!_, largest}
 use Rattle.refusal.specs.Rows as Rows
 use Rattle.refusal.specs.Refused.{of, none, isNone}
@@ -19,9 +19,6 @@ unfoldable pub floored : List Float → List Float
 floored m =
     let floor = epsilon64 ⊗ largestDiagonal m in
     max (m ! 0) floor ∷ max (m ! 4) floor ∷ max (m ! 8) floor ∷ []
-
-abbrev pub positiveFinite : Float → Bool
-positiveFinite x = isFinite x && lt zero x
 
 -- "No positive finite largest diagonal: no factor": row 10
 unfoldable pub dampingDiagonal : List Float → DampingDiagonal

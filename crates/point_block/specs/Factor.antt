@@ -4,7 +4,7 @@ use mathlib.Core.List.{List, [], _∷_}
 use lib.Ieee.{Float, neg, lt}
 use Rattle.number.specs.Binary64.{_⊕_, _⊖_, _⊗_, _⊘_, zero, half, epsilon64, recip}
 use Rattle.number.specs.Parts.{isFinite}
-use Rattle.number.specs.Root.{sqrt}
+use Rattle.root.specs.Root.{sqrt}
 use Rattle.number.specs.Vectors.{_!_}
 use Rattle.refusal.specs.Rows as Rows
 use Rattle.refusal.specs.Refused.{of, none}

@@ -103,7 +103,7 @@ impl PointBlockFactor {
         ensures { λ r. ⌜ r ≡ Damping.dampingDiagonal matrix ⌝ }
     {
         let scale = largest_diagonal(matrix);
-        if !positive_finite(scale) {
+        if !number::positive_finite(scale) {
             return DampingDiagonal {
                 values: [0.0; 3],
                 refusal: Refusal::of(refusal::NOT_FACTORED),
@@ -154,7 +154,7 @@ impl PointBlockFactor {
         ensures { λ r. ⌜ r ≡ Condition.reciprocalConditionNumber (self .inverse) matrix ⌝ }
     {
         let denominator = infinity_norm(matrix) * infinity_norm(self.inverse_matrix());
-        if positive_finite(denominator) {
+        if number::positive_finite(denominator) {
             number::recip(denominator)
         } else {
             0.0
@@ -189,12 +189,6 @@ fn lone_refused(row: u32) -> LoneFactor
         rcond: 0.0,
         refusal: Refusal::of(row),
     }
-}
-
-fn positive_finite(x: f64) -> bool
-    ensures { λ r. ⌜ r ≡ Damping.positiveFinite x ⌝ }
-{
-    number::is_finite(x) & (0.0 < x)
 }
 
 fn largest_diagonal(m: [f64; 9]) -> f64
@@ -237,7 +231,7 @@ fn scale_of(m: [f64; 9]) -> [f64; 3]
     ensures { λ r. ⌜ r ≡ Factor.scaleOf m ⌝ }
 {
     let d = floored(m, largest_diagonal(m));
-    [number::sqrt(d[0]), number::sqrt(d[1]), number::sqrt(d[2])]
+    [root::sqrt(d[0]), root::sqrt(d[1]), root::sqrt(d[2])]
 }
 
 // The lower triangle of the scaled matrix, made symmetric
@@ -264,14 +258,14 @@ fn cholesky_of(a: [f64; 6]) -> Cholesky
     ensures { λ r. ⌜ r ≡ Factor.choleskyOf a ⌝ }
 {
     let p0 = a[0];
-    let l00 = number::sqrt(p0);
+    let l00 = root::sqrt(p0);
     let l10 = a[1] / l00;
     let p1 = a[2] - l10 * l10;
-    let l11 = number::sqrt(p1);
+    let l11 = root::sqrt(p1);
     let l20 = a[3] / l00;
     let l21 = (a[4] - l20 * l10) / l11;
     let p2 = a[5] - l20 * l20 - l21 * l21;
-    let l22 = number::sqrt(p2);
+    let l22 = root::sqrt(p2);
     Cholesky {
         pivots: [p0, p1, p2],
         lower: [l00, l10, l11, l20, l21, l22],

@@ -13,7 +13,7 @@ use Rattle.point_block.specs.Lone.{factor, goodDamping}
 use Rattle.linearization.specs.declared.linearize.LocalLinearization.{LocalLinearization}
 use Rattle.linearization.specs.declared.terms.PointTerms.{PointTerms}
 use Rattle.linearization.specs.Linearize.{pointTerms}
-use Rattle.normal_equations.specs.PoseModel.{dot5}
+use Rattle.pose_model.specs.PoseModel.{dot5}
 use Rattle.point_step.specs.declared.PointStep.{PointStep}
 
 -- column i of five rows of three

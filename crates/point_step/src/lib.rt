@@ -7,7 +7,6 @@ ghost use Prim.Native.Nat.{_<_};
 ghost use Rattle.point_step.specs.PointStep as Steps;
 use linearization::LocalLinearization;
 use linearization::PointTerms;
-use normal_equations::pose_model;
 use point_block::PointBlockFactor;
 use refusal::Refusal;
 

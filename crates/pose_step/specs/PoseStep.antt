@@ -4,7 +4,7 @@ use mathlib.Core.List.{List, [], _∷_}
 use lib.Ieee.{Float, neg, lt}
 use Rattle.number.specs.Binary64.{_⊗_, _⊘_, half}
 use Rattle.number.specs.Extrema.{max}
-use Rattle.number.specs.Root.{sqrt}
+use Rattle.root.specs.Root.{sqrt}
 use Rattle.number.specs.Vectors.{_!_, sum, tabulate}
 
 abbrev pub squared : Float → Float

@@ -29,8 +29,8 @@ fn scaled(x: [f64; 5], by: f64) -> [f64; 5]
 fn step_length(x: [f64; 5]) -> f64
     ensures { λ r. ⌜ r ≡ PoseStep.stepLength x ⌝ }
 {
-    let rotation = number::sqrt(-0.0 + x[0] * x[0] + x[1] * x[1] + x[2] * x[2]);
-    let translation = number::sqrt(-0.0 + x[3] * x[3] + x[4] * x[4]);
+    let rotation = root::sqrt(-0.0 + x[0] * x[0] + x[1] * x[1] + x[2] * x[2]);
+    let translation = root::sqrt(-0.0 + x[3] * x[3] + x[4] * x[4]);
     number::max(rotation, translation)
 }
 

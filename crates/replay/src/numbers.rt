@@ -18,7 +18,7 @@ pub fn replay(text: &mut [u8; ROOM]) {
 }
 
 pub fn sqrt(case: Case) -> Outcome {
-    Outcome::one(case, number::sqrt(case.number(0)))
+    Outcome::one(case, root::sqrt(case.number(0)))
 }
 
 pub fn abs(case: Case) -> Outcome {

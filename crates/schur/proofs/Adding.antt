@@ -18,9 +18,9 @@ use Rattle.point_block.specs.declared.PointBlockFactor.{PointBlockFactor}
 use Rattle.linearization.specs.declared.linearize.LocalLinearization.{LocalLinearization}
 use Rattle.schur.specs.declared.system.ReducedSystem.{ReducedSystem}
 use Rattle.schur.specs.declared.system.Eliminated.{Eliminated}
-use Rattle.normal_equations.specs.Elimination.{reducedHessian, reducedGradient, pointReduction}
-use Rattle.normal_equations.specs.GradientNorm.{pointGradientNorm}
-use Rattle.normal_equations.specs.PoseModel.{dampedHessian, sum5, diagonal5}
+use Rattle.elimination.specs.Elimination.{reducedHessian, reducedGradient, pointReduction}
+use Rattle.gradient_norm.specs.GradientNorm.{pointGradientNorm}
+use Rattle.pose_model.specs.PoseModel.{dampedHessian, sum5, diagonal5}
 use Rattle.schur.specs.Model.{withHessian, finishDamping, reductionOf, predictedReduction}
 use Rattle.schur.specs.System.{maxBlocks, raised, notEliminated, eliminated, elimination, takenWith, taken, add}
 
@@ -32,7 +32,7 @@ at-most m n h = leb→le m n (rw (not-false (leb m n) h) tt)
 
 -- what every block brings
 pub takes-with : (s : ReducedSystem) (b : LocalLinearization) (e : Eliminated) (g d x : List Float) (k m : Float) → g ≡ sum5 (s .«full_pose_gradient») (b .«pose_gradient»)
-    → x ≡ diagonal5 (b .«pose_hessian») → d ≡ sum5 (s .«pose_diagonal») x → k ≡ pointGradientNorm b → m ≡ max (s .«scaled_point_gradient_inf_norm») k → record {
+    → x ≡ diagonal5 (b .«pose_hessian») → d ≡ sum5 (s .«pose_diagonal») x → k ≡ pointGradientNorm (b .«point_gradient») (b .«point_hessian») → m ≡ max (s .«scaled_point_gradient_inf_norm») k → record {
       hessian = e .hessian;
       gradient = e .gradient;
       cost = s .cost ⊕ b .cost;

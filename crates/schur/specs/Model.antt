@@ -8,8 +8,8 @@ use Rattle.number.specs.Vectors.{allFinite}
 use Rattle.refusal.specs.Rows as Rows
 use Rattle.refusal.specs.Refused.{of, none}
 use Rattle.point_block.specs.Lone.{goodDamping}
-use Rattle.normal_equations.specs.GradientNorm.{scaledGradientInfNorm}
-use Rattle.normal_equations.specs.PoseModel.{dampedHessian, dot5, quadratic, poseDampingNorm}
+use Rattle.gradient_norm.specs.GradientNorm.{scaledGradientInfNorm}
+use Rattle.pose_model.specs.PoseModel.{dampedHessian, dot5, quadratic, poseDampingNorm}
 use Rattle.schur.specs.declared.system.ReducedSystem.{ReducedSystem}
 use Rattle.schur.specs.declared.system.Added.{Added}
 use Rattle.schur.specs.declared.system.Predicted.{Predicted}

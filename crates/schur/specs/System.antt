@@ -12,9 +12,9 @@ use Rattle.refusal.specs.Refused.{of, none, isNone}
 use Rattle.point_block.specs.Condition.{reciprocalConditionNumber}
 use Rattle.point_block.specs.Lone.{factor, goodDamping}
 use Rattle.linearization.specs.declared.linearize.LocalLinearization.{LocalLinearization}
-use Rattle.normal_equations.specs.Elimination.{reducedHessian, reducedGradient, pointReduction}
-use Rattle.normal_equations.specs.GradientNorm.{pointGradientNorm}
-use Rattle.normal_equations.specs.PoseModel.{sum5, diagonal5}
+use Rattle.elimination.specs.Elimination.{reducedHessian, reducedGradient, pointReduction}
+use Rattle.gradient_norm.specs.GradientNorm.{pointGradientNorm}
+use Rattle.pose_model.specs.PoseModel.{sum5, diagonal5}
 use Rattle.schur.specs.declared.system.ReducedSystem.{ReducedSystem}
 use Rattle.schur.specs.declared.system.Added.{Added}
 use Rattle.schur.specs.declared.system.Eliminated.{Eliminated}
@@ -93,7 +93,7 @@ takenWith s b e = record {
   «full_pose_gradient» = sum5 (s .«full_pose_gradient») (b .«pose_gradient»);
   «pose_diagonal» = sum5 (s .«pose_diagonal») (diagonal5 (b .«pose_hessian»));
   «point_model_reduction» = e .«point_model_reduction»;
-  «scaled_point_gradient_inf_norm» = max (s .«scaled_point_gradient_inf_norm») (pointGradientNorm b);
+  «scaled_point_gradient_inf_norm» = max (s .«scaled_point_gradient_inf_norm») (pointGradientNorm (b .«point_gradient») (b .«point_hessian»));
   «weak_point_count» = e .«weak_point_count»;
   «minimum_point_rcond» = e .«minimum_point_rcond»;
   valid = e .valid;

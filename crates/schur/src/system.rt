@@ -9,9 +9,6 @@ ghost use Rattle.number.specs.Binary64 as Binary64;
 ghost use Rattle.schur.specs.Model as Model;
 ghost use Rattle.schur.specs.System as System;
 use linearization::LocalLinearization;
-use normal_equations::elimination;
-use normal_equations::gradient_norm;
-use normal_equations::pose_model;
 use point_block::PointBlockFactor;
 use refusal::Refusal;
 
@@ -268,6 +265,8 @@ impl ReducedSystem {
         let diagonal = self.pose_diagonal;
         let pose_gradient = local.pose_gradient;
         let pose_hessian = local.pose_hessian;
+        let point_gradient = local.point_gradient;
+        let point_hessian = local.point_hessian;
         Self {
             hessian,
             gradient,
@@ -278,7 +277,7 @@ impl ReducedSystem {
             point_model_reduction: change.point_model_reduction,
             scaled_point_gradient_inf_norm: number::max(
                 self.scaled_point_gradient_inf_norm,
-                gradient_norm::point_gradient_norm(local),
+                gradient_norm::point_gradient_norm(point_gradient, point_hessian),
             ),
             weak_point_count: change.weak_point_count,
             minimum_point_rcond: change.minimum_point_rcond,

@@ -3,7 +3,7 @@ use mathlib.Core.Bool.{Bool, not, _&&_, cond}
 use mathlib.Core.List.{List, [], _∷_}
 use lib.Ieee.{Float, le}
 use Rattle.number.specs.Binary64.{_⊖_, _⊗_, _⊘_, zero}
-use Rattle.number.specs.Root.{sqrt}
+use Rattle.root.specs.Root.{sqrt}
 use Rattle.number.specs.Vectors.{_!_, sum, allFinite}
 use Rattle.refusal.specs.Rows as Rows
 use Rattle.refusal.specs.Refused.{of, none}

@@ -114,7 +114,7 @@ fn row0(a: [f64; 25]) -> Row
     ensures { λ r. ⌜ r ≡ Solver.row0 a ⌝ }
 {
     let s0 = a[0] - -0.0;
-    let e0 = number::sqrt(s0);
+    let e0 = root::sqrt(s0);
     Row {
         sums: [s0, 0.0, 0.0, 0.0, 0.0],
         entries: [e0, 0.0, 0.0, 0.0, 0.0],
@@ -127,7 +127,7 @@ fn row1(a: [f64; 25], l0: [f64; 5]) -> Row
     let s0 = a[5] - -0.0;
     let e0 = s0 / l0[0];
     let s1 = a[6] - (-0.0 + e0 * e0);
-    let e1 = number::sqrt(s1);
+    let e1 = root::sqrt(s1);
     Row {
         sums: [s0, s1, 0.0, 0.0, 0.0],
         entries: [e0, e1, 0.0, 0.0, 0.0],
@@ -142,7 +142,7 @@ fn row2(a: [f64; 25], l0: [f64; 5], l1: [f64; 5]) -> Row
     let s1 = a[11] - (-0.0 + e0 * l1[0]);
     let e1 = s1 / l1[1];
     let s2 = a[12] - (-0.0 + e0 * e0 + e1 * e1);
-    let e2 = number::sqrt(s2);
+    let e2 = root::sqrt(s2);
     Row {
         sums: [s0, s1, s2, 0.0, 0.0],
         entries: [e0, e1, e2, 0.0, 0.0],
@@ -159,7 +159,7 @@ fn row3(a: [f64; 25], l0: [f64; 5], l1: [f64; 5], l2: [f64; 5]) -> Row
     let s2 = a[17] - (-0.0 + e0 * l2[0] + e1 * l2[1]);
     let e2 = s2 / l2[2];
     let s3 = a[18] - (-0.0 + e0 * e0 + e1 * e1 + e2 * e2);
-    let e3 = number::sqrt(s3);
+    let e3 = root::sqrt(s3);
     Row {
         sums: [s0, s1, s2, s3, 0.0],
         entries: [e0, e1, e2, e3, 0.0],
@@ -178,7 +178,7 @@ fn row4(a: [f64; 25], l0: [f64; 5], l1: [f64; 5], l2: [f64; 5], l3: [f64; 5]) ->
     let s3 = a[23] - (-0.0 + e0 * l3[0] + e1 * l3[1] + e2 * l3[2]);
     let e3 = s3 / l3[3];
     let s4 = a[24] - (-0.0 + e0 * e0 + e1 * e1 + e2 * e2 + e3 * e3);
-    let e4 = number::sqrt(s4);
+    let e4 = root::sqrt(s4);
     Row {
         sums: [s0, s1, s2, s3, s4],
         entries: [e0, e1, e2, e3, e4],

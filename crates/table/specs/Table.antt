@@ -5,7 +5,7 @@ use mathlib.Core.Bool.{Bool, true, false}
 use mathlib.Core.List.{List, [], _∷_}
 use lib.Ieee.{Float, binary64, ofBits}
 use Rattle.number.specs.Binary64.{zero, negZero, half, one}
-use Rattle.number.specs.Root.{sqrt}
+use Rattle.root.specs.Root.{sqrt}
 use Rattle.number.specs.Vectors.{tabulate}
 use Rattle.refusal.specs.Rows as Rows
 use Rattle.refusal.specs.Refused.{of, none}

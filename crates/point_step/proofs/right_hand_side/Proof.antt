@@ -6,7 +6,7 @@ use borrow.Author.Needs.{needs}
 use Rattle.number.proofs.Fill.{filledOf, array-none, array-next, array-full}
 use Rattle.number.specs.Binary64.{_⊕_}
 use Rattle.number.specs.Vectors.{_!_}
-use Rattle.normal_equations.specs.PoseModel.{dot5}
+use Rattle.pose_model.specs.PoseModel.{dot5}
 use Rattle.point_step.specs.PointStep.{crossColumn, rightHandSide}
 use Rattle.point_step.proofs.right_hand_side.Statement.{statement}
 use Rattle.point_step.proofs.right_hand_side.Tie as tie

@@ -1,0 +1,2 @@
+-- The sums of a block: schur.rs.
+pub mod Accumulate

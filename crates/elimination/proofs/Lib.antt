@@ -1,0 +1,2 @@
+-- A law of the Schur term.
+pub mod Rows

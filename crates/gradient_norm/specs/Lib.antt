@@ -1,0 +1,2 @@
+-- The largest entry of a gradient, scaled: schur.rs.
+pub mod GradientNorm

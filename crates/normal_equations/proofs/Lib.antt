@@ -1,3 +1,0 @@
--- Laws of the pose's equations.
-pub mod Norms
-pub mod Rows

@@ -1,0 +1,6 @@
+-- The root's theorem (`Correct`), what leads to it, and a law that callers cite (`Signs`).
+pub mod Whole
+pub mod Patterns
+pub mod Rounded
+pub mod Correct
+pub mod Signs
