@@ -1,104 +1,43 @@
 -- Numbers read from lent slices, and answers stored in them. Assumes nothing.
-use mathlib.Core.Path.{_≡_, refl, sym, ap, _∙_}
+use mathlib.Core.Path.{_≡_, refl, sym, ap, ap₂, _∙_}
 use mathlib.Core.Bool.{Bool, true, false, not, _&&_, true≢false}
-use mathlib.Core.List.{List, [], _++_, append-nil}
-use Prim.Native.Nat.{ℕ, _+_, _-_, _≤_, _<_}
+use mathlib.Core.List.{List, [], _∷_, _++_, append-nil}
+use Prim.Native.Nat.{ℕ, zero, suc, _+_, _-_, _≤_}
+use native.Mathlib.Nat.{zero-add}
 use native.Mathlib.Omega.{arith}
 use borrow.Author.Tests.{not-true, not-false, eqb-true}
 use lib.Dec.{eqb}
-use lib.ListN.{length, length-append, length-drop, getD, take, drop, drop-of-length-le}
-use lib.Seq.{paste, take-length, length-take-le, take-at, take-all, drop-append-add, drop-length}
+use lib.ListN.{length, length-append, length-drop, take, drop, drop-of-length-le}
+use lib.Seq.{paste, take-length, take-at, drop-append-add, drop-length}
 use lib.Ieee.{Float}
-use Rattle.number.specs.Vectors.{_!_}
+use Rattle.number.specs.Vectors.{_!_, tabulate}
 use Rattle.refusal.specs.Refused.{none, isNone}
 use Rattle.refusal.specs.declared.Refusal.{Refusal}
 use Rattle.projection.specs.declared.PinholeCamera.{PinholeCamera}
-use Rattle.linearization.specs.declared.views.Correspondence.{Correspondence}
-use Rattle.linearization.specs.declared.linearize.LocalLinearization.{LocalLinearization}
-use Rattle.linearization.specs.declared.views.Pose.{Pose}
-use Rattle.schur.specs.declared.system.ReducedSystem.{ReducedSystem}
-use Rattle.optimizer.specs.declared.Rig.{Rig}
-use Rattle.flat.specs.Flat.{part, put, camera, pose, rig, correspondence, block, system}
+use Rattle.flat.specs.Flat.{part, put, camera}
 use Rattle.flat.specs.Answers.{code, lengthsCode, stored, answer, Answered}
 
 -- ---- reading
 
+tabulate-same : (n : ℕ) (f g : ℕ → Float) → ((i : ℕ) → f i ≡ g i) → tabulate n f ≡ tabulate n g
+tabulate-same zero f g e = refl
+tabulate-same (suc n) f g e = ap₂ (λ (a : Float) (l : List Float). a ∷ l) (e 0) (tabulate-same n (λ i. f (suc i)) (λ i. g (suc i)) (λ i. e (suc i)))
+
 -- all numbers of a list
-pub whole : (x : List Float) (n : ℕ) (r : List Float) → length x ≡ n → (0 + n ≤ length x → r ≡ part 0 (0 + n) x) → r ≡ x
+tabulate-self : (x : List Float) → tabulate (length x) (λ i. x ! i) ≡ x
+tabulate-self [] = refl
+tabulate-self (a ∷ x) = ap (λ (l : List Float). a ∷ l) (tabulate-self x)
+
+pub whole : (x : List Float) (n : ℕ) (r : List Float) → length x ≡ n → r ≡ part 0 n x → r ≡ x
+unfolding part
 whole x n r e h =
-    let k : length x ≤ 0 + n - 0 = omega arith in
-    h (omega arith) ∙ take-all (0 + n - 0) x k
+    h
+    ∙ tabulate-same n (λ i. x ! (0 + i)) (λ i. x ! i) (λ i. ap (λ (k : ℕ). x ! k) (zero-add i))
+    ∙ ap (λ (m : ℕ). tabulate m (λ i. x ! i)) (sym e)
+    ∙ tabulate-self x
 
-pub whole-camera : (x : List Float) (r : PinholeCamera) → length x ≡ 5 → (0 + 5 ≤ length x → r ≡ camera (part 0 (0 + 5) x)) → r ≡ camera x
-whole-camera x r e h = h (omega arith) ∙ ap (λ (l : List Float). camera l) (whole x 5 (part 0 5 x) e (λ k. refl))
-
-pub part-length : (x : List Float) (start n : ℕ) → start + n ≤ length x → length (part start (start + n) x) ≡ n
-part-length x start n h =
-    let k = length-drop start x in
-    let m : start + n - start ≤ length (drop start x) = omega arith in
-    length-take-le (start + n - start) (drop start x) m ∙ omega arith
-
--- what was read of x, where it is long enough: n numbers from a place on, or the one at a place
-abbrev Part : List Float → ℕ → ℕ → List Float → Type 0
-Part x start n r = start + n ≤ length x → r ≡ part start (start + n) x
-
-abbrev One : List Float → ℕ → Float → Type 0
-One x i r = i < length x → r ≡ x ! i
-
--- the structs that parts and single numbers make
-module _ (x : List Float) where
-  pub pose-of : (r t b : List Float) (l : Float) → Part x 0 9 r → Part x 9 3 t → Part x 12 6 b → One x 18 l → length x ≡ 19
-      → _≡_ {A = Pose} (record { rotation = r; translation = t; basis = b; baseline = l }) (pose x)
-  unfolding pose
-  pose-of r t b l p q s u e = rw (p (omega arith), q (omega arith), s (omega arith), u (omega arith)) refl
-
-  pub rig-of : (a b : PinholeCamera) (l : List Float) (g : Pose) → (0 + 5 ≤ length x → a ≡ camera (part 0 5 x)) → (5 + 5 ≤ length x → b ≡ camera (part 5 10 x)) → Part x 10 19 l
-      → length l ≡ 19 → (length l ≡ 19 → g ≡ pose l) → length x ≡ 29 → _≡_ {A = Rig} (record { camera1 = a; camera2 = b; pose = g }) (rig x)
-  unfolding rig
-  rig-of a b l g p q s m u e = rw (p (omega arith), q (omega arith), u m, s (omega arith)) refl
-
-  pub correspondence-of : (p v w : List Float) (d : Float) → Part x 0 3 p → Part x 3 2 v → Part x 5 2 w → One x 7 d → length x ≡ 8
-      → _≡_ {A = Correspondence} (record { point = p; view1 = v; view2 = w; «inverse_deviation» = d }) (correspondence x)
-  unfolding correspondence
-  correspondence-of p v w d h i j k e = rw (h (omega arith), i (omega arith), j (omega arith), k (omega arith)) refl
-
-  pub block-of : (h k l g f : List Float) (c s : Float) (r : Refusal) → Part x 0 25 h → Part x 25 15 k → Part x 40 9 l → Part x 49 5 g → Part x 54 3 f → One x 57 c → One x 58 s → r ≡ none
-      → length x ≡ 59 → _≡_ {A = LocalLinearization} (record {
-        «pose_hessian» = h;
-        «cross_hessian» = k;
-        «point_hessian» = l;
-        «pose_gradient» = g;
-        «point_gradient» = f;
-        cost = c;
-        «squared_residual» = s;
-        refusal = r;
-      }) (block x)
-  unfolding block
-  block-of h k l g f c s r p₁ p₂ p₃ p₄ p₅ p₆ p₇ p₈ e =
-      rw (p₁ (omega arith), p₂ (omega arith), p₃ (omega arith), p₄ (omega arith), p₅ (omega arith), p₆ (omega arith), p₇ (omega arith), p₈) refl
-
-  module _ (counts : List ℕ) where
-    abbrev Count : ℕ → ℕ → Type 0
-    Count i r = i < length counts → r ≡ getD counts i 0
-
-    pub system-of : (h g f d : List Float) (c s m n y : Float) (w v b : ℕ) → Part x 0 25 h → Part x 25 5 g → One x 30 c → One x 31 s → Part x 32 5 f → Part x 37 5 d → One x 42 m → One x 43 n
-        → Count 0 w → One x 44 y → Count 2 v → Count 1 b → length x ≡ 45 → length counts ≡ 3 → _≡_ {A = ReducedSystem} (record {
-          hessian = h;
-          gradient = g;
-          cost = c;
-          «squared_residual» = s;
-          «full_pose_gradient» = f;
-          «pose_diagonal» = d;
-          «point_model_reduction» = m;
-          «scaled_point_gradient_inf_norm» = n;
-          «weak_point_count» = w;
-          «minimum_point_rcond» = y;
-          valid = not (eqb v 0);
-          «block_count» = b;
-        }) (system x counts)
-    unfolding system
-    system-of h g f d c s m n y w v b p₁ p₂ p₃ p₄ p₅ p₆ p₇ p₈ p₉ q₁ q₂ q₃ e k =
-        rw (p₁ (omega arith), p₂ (omega arith), p₃ (omega arith), p₄ (omega arith), p₅ (omega arith), p₆ (omega arith), p₇ (omega arith), p₈ (omega arith), p₉ (omega arith), q₁ (omega arith), q₂ (omega arith), q₃ (omega arith)) refl
+pub whole-camera : (x : List Float) (r : PinholeCamera) → length x ≡ 5 → r ≡ camera (part 0 5 x) → r ≡ camera x
+whole-camera x r e h = h ∙ ap (λ (l : List Float). camera l) (whole x 5 (part 0 5 x) e refl)
 
 -- ---- writing
 

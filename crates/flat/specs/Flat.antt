@@ -1,27 +1,26 @@
 -- The structs of the calls as flat lists of numbers, and back.
-use Prim.Native.Nat.{ℕ, _-_}
+use Prim.Native.Nat.{ℕ, _+_}
 use mathlib.Core.Bool.{Bool, not, cond}
 use mathlib.Core.List.{List, [], _∷_, _++_}
 use lib.Dec.{eqb}
-use lib.ListN.{length, getD, take, drop}
+use lib.ListN.{length, getD}
 use lib.Seq.{paste}
 use lib.Ieee.{Float}
-use Rattle.number.specs.Vectors.{_!_}
+use Rattle.number.specs.Vectors.{_!_, tabulate}
 use Rattle.refusal.specs.Refused.{none}
 use Rattle.projection.specs.declared.PinholeCamera.{PinholeCamera}
 use Rattle.projection.specs.declared.Projected.{Projected}
 use Rattle.point_block.specs.declared.LoneFactor.{LoneFactor}
 use Rattle.linearization.specs.declared.views.Correspondence.{Correspondence}
 use Rattle.linearization.specs.declared.linearize.LocalLinearization.{LocalLinearization}
-use Rattle.linearization.specs.declared.views.Pose.{Pose}
 use Rattle.schur.specs.declared.system.ReducedSystem.{ReducedSystem}
 use Rattle.point_step.specs.declared.PointStep.{PointStep}
 use Rattle.optimizer.specs.declared.Rig.{Rig}
 use Rattle.optimizer.specs.declared.StepResult.{StepResult}
 
--- the numbers from one place up to another
-abbrev pub part : ℕ → ℕ → List Float → List Float
-part start end x = take (end - start) (drop start x)
+-- n numbers from a place on; beyond the end they are NaN
+unfoldable pub part : ℕ → ℕ → List Float → List Float
+part start n x = tabulate n (λ i. x ! (start + i))
 
 -- `out` with the values in it, from `start` on
 unfoldable pub put : List Float → ℕ → List Float → List Float
@@ -30,23 +29,24 @@ put values start out = paste out start values (length values)
 abbrev pub camera : List Float → PinholeCamera
 camera x = record { fx = x ! 0; fy = x ! 1; cx = x ! 2; cy = x ! 3; skew = x ! 4 }
 
-unfoldable pub pose : List Float → Pose
-pose x = record { rotation = part 0 9 x; translation = part 9 12 x; basis = part 12 18 x; baseline = x ! 18 }
-
 -- camera 1 and 2, rotation, translation, basis, baseline
 unfoldable pub rig : List Float → Rig
-rig x = record { camera1 = camera (part 0 5 x); camera2 = camera (part 5 10 x); pose = pose (part 10 29 x) }
+rig x = record {
+  camera1 = camera (part 0 5 x);
+  camera2 = camera (part 5 5 x);
+  pose = record { rotation = part 10 9 x; translation = part 19 3 x; basis = part 22 6 x; baseline = x ! 28 };
+}
 
 unfoldable pub correspondence : List Float → Correspondence
-correspondence x = record { point = part 0 3 x; view1 = part 3 5 x; view2 = part 5 7 x; «inverse_deviation» = x ! 7 }
+correspondence x = record { point = part 0 3 x; view1 = part 3 2 x; view2 = part 5 2 x; «inverse_deviation» = x ! 7 }
 
 unfoldable pub block : List Float → LocalLinearization
 block x = record {
   «pose_hessian» = part 0 25 x;
-  «cross_hessian» = part 25 40 x;
-  «point_hessian» = part 40 49 x;
-  «pose_gradient» = part 49 54 x;
-  «point_gradient» = part 54 57 x;
+  «cross_hessian» = part 25 15 x;
+  «point_hessian» = part 40 9 x;
+  «pose_gradient» = part 49 5 x;
+  «point_gradient» = part 54 3 x;
   cost = x ! 57;
   «squared_residual» = x ! 58;
   refusal = none;
@@ -60,11 +60,11 @@ blockNumbers b =
 unfoldable pub system : List Float → List ℕ → ReducedSystem
 system x counts = record {
   hessian = part 0 25 x;
-  gradient = part 25 30 x;
+  gradient = part 25 5 x;
   cost = x ! 30;
   «squared_residual» = x ! 31;
-  «full_pose_gradient» = part 32 37 x;
-  «pose_diagonal» = part 37 42 x;
+  «full_pose_gradient» = part 32 5 x;
+  «pose_diagonal» = part 37 5 x;
   «point_model_reduction» = x ! 42;
   «scaled_point_gradient_inf_norm» = x ! 43;
   «weak_point_count» = getD counts 0 0;

@@ -1,5 +1,5 @@
 // Structs as flat numbers and back, and an answer stored in lent memory: what the calls of the C interface share.
-// Each call has an answer for every length. Its contract says which where the lengths are right.
+// Each call has an answer for every length: numbers beyond the end of a slice are NaN, counts are 0.
 mod memory;
 mod structs;
 

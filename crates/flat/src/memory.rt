@@ -1,8 +1,7 @@
 // Lent slices as small arrays, and an answer stored in one.
 ghost use mathlib.Core.Path.{_≡_};
-ghost use Prim.Native.Nat.{_+_, _≤_, _<_};
+ghost use Prim.Native.Nat.{_+_, _≤_};
 ghost use lib.ListN.{length, getD};
-ghost use Rattle.number.specs.Vectors.{_!_};
 ghost use Rattle.flat.specs.Answers as Answers;
 ghost use Rattle.flat.specs.Flat as Flat;
 use refusal::Refusal;
@@ -53,91 +52,75 @@ pub(crate) fn copy(values: &[f64], start: usize, out: &mut [f64])
     }
 }
 
-// Fills `out` with the numbers of x from `start` on, where x has as many.
-pub(crate) fn read(x: &[f64], start: usize, out: &mut [f64])
-    ensures { λ _. ⌜ (start + length (now (out .entry)) ≤ length (now (x .entry)) → now (out .exit) ≡ Flat.part start (start + length (now (out .entry))) (now (x .entry))) ⌝ }
+// Fills `out` with the numbers of x from `start` on; beyond the end they are NaN.
+pub(crate) fn read(x: &[f64], start: u32, out: &mut [f64])
+    requires { ⌜ length (now out) ≤ 25 ⌝ }
+    ensures { λ _. ⌜ now (out .exit) ≡ Flat.part start (length (now (out .entry))) (now (x .entry)) ⌝ }
 {
-    if x.len() < start {
-        return;
+    let first = start as usize;
+    for i in 0..out.len() {
+        out[i] = number::entry(x, first + i);
     }
-    if x.len() - start < out.len() {
-        return;
-    }
-    let end = start + out.len();
-    store(&x[start..end], out);
 }
 
-// The number at i, where x has it
-pub(crate) fn number(x: &[f64], i: usize) -> f64
-    ensures { λ r. ⌜ (i < length (now (x .entry)) → r ≡ now (x .entry) ! i) ⌝ }
-{
-    if i < x.len() {
-        return x[i];
-    }
-    0.0
-}
-
-// The count at i, where there are as many
+// The count at i; beyond the end it is 0.
 pub(crate) fn count(counts: &[u16], i: usize) -> u16
-    ensures { λ r. ⌜ (i < length (now (counts .entry)) → r ≡ getD (now (counts .entry)) i 0) ⌝ }
+    ensures { λ r. ⌜ r ≡ getD (now (counts .entry)) i 0 ⌝ }
 {
-    if i < counts.len() {
-        return counts[i];
-    }
-    0
+    if i < counts.len() { counts[i] } else { 0 }
 }
 
-// The numbers of x from `start` on, where x has as many
-pub fn vector2(x: &[f64], start: usize) -> [f64; 2]
-    ensures { λ r. ⌜ (start + 2 ≤ length (now (x .entry)) → r ≡ Flat.part start (start + 2) (now (x .entry))) ⌝ }
+// So many numbers of x, from `start` on
+pub fn vector2(x: &[f64], start: u32) -> [f64; 2]
+    ensures { λ r. ⌜ r ≡ Flat.part start 2 (now (x .entry)) ⌝ }
 {
     let mut numbers = [0.0; 2];
     read(x, start, &mut numbers);
     numbers
 }
 
-pub fn vector3(x: &[f64], start: usize) -> [f64; 3]
-    ensures { λ r. ⌜ (start + 3 ≤ length (now (x .entry)) → r ≡ Flat.part start (start + 3) (now (x .entry))) ⌝ }
+pub fn vector3(x: &[f64], start: u32) -> [f64; 3]
+    ensures { λ r. ⌜ r ≡ Flat.part start 3 (now (x .entry)) ⌝ }
 {
     let mut numbers = [0.0; 3];
     read(x, start, &mut numbers);
     numbers
 }
 
-pub fn vector5(x: &[f64], start: usize) -> [f64; 5]
-    ensures { λ r. ⌜ (start + 5 ≤ length (now (x .entry)) → r ≡ Flat.part start (start + 5) (now (x .entry))) ⌝ }
+pub fn vector5(x: &[f64], start: u32) -> [f64; 5]
+    ensures { λ r. ⌜ r ≡ Flat.part start 5 (now (x .entry)) ⌝ }
 {
     let mut numbers = [0.0; 5];
     read(x, start, &mut numbers);
     numbers
 }
 
-pub fn vector6(x: &[f64], start: usize) -> [f64; 6]
-    ensures { λ r. ⌜ (start + 6 ≤ length (now (x .entry)) → r ≡ Flat.part start (start + 6) (now (x .entry))) ⌝ }
+pub fn vector6(x: &[f64], start: u32) -> [f64; 6]
+    ensures { λ r. ⌜ r ≡ Flat.part start 6 (now (x .entry)) ⌝ }
 {
     let mut numbers = [0.0; 6];
     read(x, start, &mut numbers);
     numbers
 }
 
-pub fn vector9(x: &[f64], start: usize) -> [f64; 9]
-    ensures { λ r. ⌜ (start + 9 ≤ length (now (x .entry)) → r ≡ Flat.part start (start + 9) (now (x .entry))) ⌝ }
+pub fn vector9(x: &[f64], start: u32) -> [f64; 9]
+    ensures { λ r. ⌜ r ≡ Flat.part start 9 (now (x .entry)) ⌝ }
 {
     let mut numbers = [0.0; 9];
     read(x, start, &mut numbers);
     numbers
 }
 
-pub(crate) fn vector15(x: &[f64], start: usize) -> [f64; 15]
-    ensures { λ r. ⌜ (start + 15 ≤ length (now (x .entry)) → r ≡ Flat.part start (start + 15) (now (x .entry))) ⌝ }
+pub(crate) fn vector15(x: &[f64], start: u32) -> [f64; 15]
+    ensures { λ r. ⌜ r ≡ Flat.part start 15 (now (x .entry)) ⌝ }
 {
     let mut numbers = [0.0; 15];
     read(x, start, &mut numbers);
     numbers
 }
 
-pub fn vector25(x: &[f64], start: usize) -> [f64; 25]
-    ensures { λ r. ⌜ (start + 25 ≤ length (now (x .entry)) → r ≡ Flat.part start (start + 25) (now (x .entry))) ⌝ }
+pub fn vector25(x: &[f64], start: u32) -> [f64; 25]
+    ensures { λ r. ⌜ r ≡ Flat.part start 25 (now (x .entry)) ⌝ }
 {
     let mut numbers = [0.0; 25];
     read(x, start, &mut numbers);

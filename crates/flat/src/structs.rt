@@ -1,7 +1,5 @@
 // The structs of the calls, from lent numbers and back.
 ghost use mathlib.Core.Path.{_≡_};
-ghost use Prim.Native.Nat.{_+_, _≤_};
-ghost use lib.ListN.{length};
 ghost use Rattle.flat.specs.Flat as Flat;
 use crate::memory;
 use linearization::Correspondence;
@@ -17,8 +15,8 @@ use refusal::Refusal;
 use schur::ReducedSystem;
 
 // Five numbers, from `start` on
-pub fn camera(x: &[f64], start: usize) -> PinholeCamera
-    ensures { λ r. ⌜ (start + 5 ≤ length (now (x .entry)) → r ≡ Flat.camera (Flat.part start (start + 5) (now (x .entry)))) ⌝ }
+pub fn camera(x: &[f64], start: u32) -> PinholeCamera
+    ensures { λ r. ⌜ r ≡ Flat.camera (Flat.part start 5 (now (x .entry))) ⌝ }
 {
     let numbers = memory::vector5(x, start);
     PinholeCamera {
@@ -30,43 +28,35 @@ pub fn camera(x: &[f64], start: usize) -> PinholeCamera
     }
 }
 
-fn pose(x: &[f64]) -> Pose
-    ensures { λ r. ⌜ (length (now (x .entry)) ≡ 19 → r ≡ Flat.pose (now (x .entry))) ⌝ }
-{
-    Pose {
-        rotation: memory::vector9(x, 0),
-        translation: memory::vector3(x, 9),
-        basis: memory::vector6(x, 12),
-        baseline: memory::number(x, 18),
-    }
-}
-
 // Camera 1 and 2, then how the second one sits
 pub fn rig(x: &[f64]) -> Rig
-    ensures { λ r. ⌜ (length (now (x .entry)) ≡ 29 → r ≡ Flat.rig (now (x .entry))) ⌝ }
+    ensures { λ r. ⌜ r ≡ Flat.rig (now (x .entry)) ⌝ }
 {
-    let mut sits = [0.0; 19];
-    memory::read(x, 10, &mut sits);
     Rig {
         camera1: camera(x, 0),
         camera2: camera(x, 5),
-        pose: pose(&sits),
+        pose: Pose {
+            rotation: memory::vector9(x, 10),
+            translation: memory::vector3(x, 19),
+            basis: memory::vector6(x, 22),
+            baseline: number::entry(x, 28),
+        },
     }
 }
 
 pub fn correspondence(x: &[f64]) -> Correspondence
-    ensures { λ r. ⌜ (length (now (x .entry)) ≡ 8 → r ≡ Flat.correspondence (now (x .entry))) ⌝ }
+    ensures { λ r. ⌜ r ≡ Flat.correspondence (now (x .entry)) ⌝ }
 {
     Correspondence {
         point: memory::vector3(x, 0),
         view1: memory::vector2(x, 3),
         view2: memory::vector2(x, 5),
-        inverse_deviation: memory::number(x, 7),
+        inverse_deviation: number::entry(x, 7),
     }
 }
 
 pub fn block(x: &[f64]) -> LocalLinearization
-    ensures { λ r. ⌜ (length (now (x .entry)) ≡ 59 → r ≡ Flat.block (now (x .entry))) ⌝ }
+    ensures { λ r. ⌜ r ≡ Flat.block (now (x .entry)) ⌝ }
 {
     LocalLinearization {
         pose_hessian: memory::vector25(x, 0),
@@ -74,27 +64,27 @@ pub fn block(x: &[f64]) -> LocalLinearization
         point_hessian: memory::vector9(x, 40),
         pose_gradient: memory::vector5(x, 49),
         point_gradient: memory::vector3(x, 54),
-        cost: memory::number(x, 57),
-        squared_residual: memory::number(x, 58),
+        cost: number::entry(x, 57),
+        squared_residual: number::entry(x, 58),
         refusal: Refusal::none(),
     }
 }
 
 // The flag is false where it is 0.
 pub fn system(x: &[f64], counts: &[u16]) -> ReducedSystem
-    ensures { λ r. ⌜ (length (now (x .entry)) ≡ 45 → length (now (counts .entry)) ≡ 3 → r ≡ Flat.system (now (x .entry)) (now (counts .entry))) ⌝ }
+    ensures { λ r. ⌜ r ≡ Flat.system (now (x .entry)) (now (counts .entry)) ⌝ }
 {
     ReducedSystem {
         hessian: memory::vector25(x, 0),
         gradient: memory::vector5(x, 25),
-        cost: memory::number(x, 30),
-        squared_residual: memory::number(x, 31),
+        cost: number::entry(x, 30),
+        squared_residual: number::entry(x, 31),
         full_pose_gradient: memory::vector5(x, 32),
         pose_diagonal: memory::vector5(x, 37),
-        point_model_reduction: memory::number(x, 42),
-        scaled_point_gradient_inf_norm: memory::number(x, 43),
+        point_model_reduction: number::entry(x, 42),
+        scaled_point_gradient_inf_norm: number::entry(x, 43),
         weak_point_count: memory::count(counts, 0),
-        minimum_point_rcond: memory::number(x, 44),
+        minimum_point_rcond: number::entry(x, 44),
         valid: memory::count(counts, 2) != 0,
         block_count: memory::count(counts, 1),
     }

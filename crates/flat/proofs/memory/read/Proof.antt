@@ -1,34 +1,52 @@
 -- `flat::memory::read` meets its contract. Assumes nothing.
-use Rattle.flat.proofs.Laws.{part-length}
+use mathlib.Core.Path.{_≡_, refl, _∙_}
+use Prim.Native.Nat.{_+_, _-_, _≤_}
 use native.Mathlib.Omega.{arith}
 use borrow.Author.Needs.{needs}
+use lib.ListN.{length, length-set}
+use Rattle.number.specs.Vectors.{_!_}
+use Rattle.number.proofs.Fill.{filled, fill-next, fill-all}
+use Rattle.flat.specs.Flat.{part}
 use Rattle.flat.proofs.memory.read.Statement.{statement}
 use Rattle.flat.proofs.memory.read.Tie as tie
 
-returns : tie.Need-returns
-returns c = λ h. absurd (omega arith)
+abbrev Inv-loop : tie.InvT-loop
+Inv-loop x start out₀ first i₀ i-end out i =
+    (i ≤ i-end) × (i-end ≡ length out₀) × (first ≡ start) × (length out ≡ length out₀) × (out ≡ filled out₀ (λ k. x ! (start + k)) i)
 
-returns-2 : tie.Need-returns-2
-returns-2 c = λ h. absurd (omega arith)
+abbrev μ-loop : tie.MeasureT-loop
+μ-loop x start out₀ first i₀ i-end out i = i-end - i
 
-same-length : tie.Need-same-length
-same-length c = search needs
+loop-again : tie.Need-loop-again Inv-loop μ-loop
+loop-again c =
+    let l = c .before .before in (
+      omega arith,
+      l .loop .inv .1,
+      l .loop .inv .2,
+      length-set (l .loop .out) _ _ ∙ l .loop .inv .3,
+      fill-next _ _ _ _ _ (l .loop .inv .4) (c .entry .ensures) (omega arith),
+    )
 
-returns-3 : tie.Need-returns-3
-returns-3 c = λ h. c .before .before .store .ensures .fits (part-length _ _ _ h)
+returns : tie.Need-returns Inv-loop μ-loop
+unfolding part
+returns c =
+    let l = c .before in
+    let out = l .before .before .before .args .out .now in
+    fill-all out _ _ (l .loop .i) (length out) (l .loop .inv .4) (omega arith) refl
 
 pub read-spec : {M : Type 1} → statement M
 read-spec =
     tie.close
     (tie.spec
-    returns
-    (λ c. omega arith)
-    returns-2
-    (λ c. omega arith)
-    (λ c. omega arith)
-    (λ c. omega arith)
-    (λ c. omega arith)
+    Inv-loop
+    μ-loop
+    (λ c. (omega arith, refl, refl, refl, refl))
     (λ c. omega arith)
     (λ c κs. search needs)
-    same-length
-    returns-3)
+    (λ c. omega arith)
+    (λ c. omega arith)
+    (λ c. omega arith)
+    (λ c. omega arith)
+    loop-again
+    (λ c. c .before .loop .inv .3)
+    returns)

@@ -8,7 +8,7 @@ use Rattle.flat.proofs.structs.camera.Statement.{statement}
 use Rattle.flat.proofs.structs.camera.Tie as tie
 
 returns : tie.Need-returns
-returns c = λ h. ap (λ (l : List Float). camera l) (c .vector5 .ensures h)
+returns c = ap (λ (l : List Float). camera l) (c .vector5 .ensures)
 
 pub camera-spec : {M : Type 1} → statement M
 camera-spec =

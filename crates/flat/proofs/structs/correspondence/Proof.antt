@@ -1,11 +1,13 @@
 -- `flat::structs::correspondence` meets its contract. Assumes nothing.
-use Rattle.flat.proofs.Laws.{correspondence-of}
+use mathlib.Core.Path.{refl}
+use Rattle.flat.specs.Flat.{correspondence}
 use borrow.Author.Needs.{needs}
 use Rattle.flat.proofs.structs.correspondence.Statement.{statement}
 use Rattle.flat.proofs.structs.correspondence.Tie as tie
 
 returns : tie.Need-returns
-returns c = correspondence-of _ _ _ _ _ (c .before .before .before .vector3 .ensures) (c .before .before .vector2 .ensures) (c .before .vector22 .ensures) (c .number .ensures)
+unfolding correspondence
+returns c = rw (c .before .before .before .vector3 .ensures, c .before .before .vector2 .ensures, c .before .vector22 .ensures, c .entry .ensures) refl
 
 pub correspondence-spec : {M : Type 1} → statement M
 correspondence-spec =

@@ -1,22 +1,24 @@
 -- `flat::structs::rig` meets its contract. Assumes nothing.
-use Rattle.flat.proofs.Laws.{rig-of}
+use mathlib.Core.Path.{refl}
+use Rattle.flat.specs.Flat.{rig}
 use borrow.Author.Needs.{needs}
 use Rattle.flat.proofs.structs.rig.Statement.{statement}
 use Rattle.flat.proofs.structs.rig.Tie as tie
 
 returns : tie.Need-returns
+unfolding rig
 returns c =
-    let r = c .before .before .before .before .before in
-    rig-of _ _ _ _ _ (c .before .before .before .camera .ensures) (c .before .before .camera2 .ensures) (r .read .ensures) (search needs) (c .pose .ensures)
+    let b = c .before .before .before in
+    rw (b .before .before .camera .ensures, b .before .camera2 .ensures, b .vector9 .ensures, c .before .before .vector3 .ensures, c .before .vector6 .ensures, c .entry .ensures) refl
 
 pub rig-spec : {M : Type 1} → statement M
 rig-spec =
     tie.close
     (tie.spec
-    (λ c. search needs)
     (λ c κs. search needs)
     (λ c κs. search needs)
     (λ c κs. search needs)
-    (λ c. search needs)
+    (λ c κs. search needs)
+    (λ c κs. search needs)
     (λ c κs. search needs)
     returns)

@@ -31,8 +31,8 @@ returns-2 c =
     let d = c .before .before .before .before .before .before .before .before .correspondence in
     let e =
     c .before .before .before .before .before .before .before .linearize-point .ensures
-    ∙ ap (λ (x : Rig). Linearize.linearizePoint (x .camera1) (x .camera2) (x .pose) (d .result)) (g .ensures (f .0))
-    ∙ ap (λ (x : Correspondence). Linearize.linearizePoint (rig (c .before .before .before .before .before .before .before .before .before .before .before .before .before .before .before .before .before .args .rig .now) .camera1) (rig (c .before .before .before .before .before .before .before .before .before .before .before .before .before .before .before .before .before .args .rig .now) .camera2) (rig (c .before .before .before .before .before .before .before .before .before .before .before .before .before .before .before .before .before .args .rig .now) .pose) x) (d .ensures (f .1)) in
+    ∙ ap (λ (x : Rig). Linearize.linearizePoint (x .camera1) (x .camera2) (x .pose) (d .result)) (g .ensures)
+    ∙ ap (λ (x : Correspondence). Linearize.linearizePoint (rig (c .before .before .before .before .before .before .before .before .before .before .before .before .before .before .before .before .before .args .rig .now) .camera1) (rig (c .before .before .before .before .before .before .before .before .before .before .before .before .before .before .before .before .before .args .rig .now) .camera2) (rig (c .before .before .before .before .before .before .before .before .before .before .before .before .before .before .before .before .before .args .rig .now) .pose) x) (d .ensures) in
     answers _ _ _ _ _ _ _ _ (c .before .before .before .before .before .before .before .before .before .before .before .before .before .if1 .left) (ap (λ (b : LocalLinearization). b .refusal) e) (c .before .before .before .before .before .block-numbers .ensures ∙ ap blockNumbers e) (sized (c .before .before .before) ∙ sym (f .2)) (c .before .before .answer .ensures)
 
 pub pixel-step-linearize-point-spec : {M : Type 1} → statement M

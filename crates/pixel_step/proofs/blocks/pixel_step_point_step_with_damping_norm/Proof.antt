@@ -31,7 +31,7 @@ returns-2 c =
     let start = c .before .before .before .before .before .before .before .before .before .before .before .before .before .before in
     let e =
     c .before .before .before .before .before .before .before .point-step-with-damping-norm .ensures
-    ∙ ap (λ (b : LocalLinearization). PointStep.pointStep b (start .args .damping) (c .before .before .before .before .before .before .before .before .vector5 .result)) (c .before .before .before .before .before .before .before .before .before .block .ensures (f .0))
+    ∙ ap (λ (b : LocalLinearization). PointStep.pointStep b (start .args .damping) (c .before .before .before .before .before .before .before .before .vector5 .result)) (c .before .before .before .before .before .before .before .before .before .block .ensures)
     ∙ ap (λ (l : List Float). PointStep.pointStep (block (start .args .block .now)) (start .args .damping) l) (whole _ 5 _ (f .1) (c .before .before .before .before .before .before .before .before .vector5 .ensures)) in
     answers _ _ _ _ _ _ _ _ (c .before .before .before .before .before .before .before .before .before .before .if1 .left) (ap (λ (p : Stepped.PointStep). p .refusal) e) (c .before .before .before .before .before .point-step-numbers .ensures ∙ ap (λ (p : Stepped.PointStep). pointStepNumbers p) e) (sized (c .before .before .before) ∙ sym (f .2)) (c .before .before .answer .ensures)
 

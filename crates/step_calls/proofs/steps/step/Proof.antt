@@ -24,7 +24,7 @@ returns-2 : tie.Need-returns-2
 returns-2 c =
     let f = fit (c .before .before .before .before .before .before .before .before .before .before .before .before) in
     let a = c .before .before .before .before .before .before .before .before .before .before .before .before .before .before .before .before .before .before .before .before .before .args in
-    steps (λ (x : Rig). problem (a .points .now) (a .view1 .now) (a .view2 .now) (a .inverse-deviations .now) x (a .damping)) (c .before .before .before .before .before .before .before .before .before .before .before .rig .result) (a .rig .now) _ (a .room .now) _ _ _ _ _ _ (c .before .before .before .before .before .before .before .before .before .before .before .before .if1 .left) (c .before .before .before .before .before .before .before .before .before .before .before .rig .ensures (f .0)) (c .before .before .before .before .before .before .before .before .before .step .ensures) (c .before .before .before .before .answer .ensures)
+    steps (λ (x : Rig). problem (a .points .now) (a .view1 .now) (a .view2 .now) (a .inverse-deviations .now) x (a .damping)) (c .before .before .before .before .before .before .before .before .before .before .before .rig .result) (a .rig .now) _ (a .room .now) _ _ _ _ _ _ (c .before .before .before .before .before .before .before .before .before .before .before .before .if1 .left) (c .before .before .before .before .before .before .before .before .before .before .before .rig .ensures) (c .before .before .before .before .before .before .before .before .before .step .ensures) (c .before .before .before .before .answer .ensures)
 
 pub step-spec : {M : Type 1} → statement M
 step-spec =

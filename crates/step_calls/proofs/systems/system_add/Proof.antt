@@ -32,8 +32,8 @@ returns-2 c =
     let start = c .before .before .before .before .before .before .before .before .before .before .before .before .before .before .before .before .before .before in
     let e =
     c .before .before .before .before .before .before .before .before .before .add .ensures
-    ∙ ap (λ (s : ReducedSystem). System.add s (c .before .before .before .before .before .before .before .before .before .before .block .result) (start .args .damping)) (c .before .before .before .before .before .before .before .before .before .before .before .system .ensures (f .0) (f .1))
-    ∙ ap (λ (b : LocalLinearization). System.add (system (start .args .system .now) (start .args .counts .now)) b (start .args .damping)) (c .before .before .before .before .before .before .before .before .before .before .block .ensures (f .2)) in
+    ∙ ap (λ (s : ReducedSystem). System.add s (c .before .before .before .before .before .before .before .before .before .before .block .result) (start .args .damping)) (c .before .before .before .before .before .before .before .before .before .before .before .system .ensures)
+    ∙ ap (λ (b : LocalLinearization). System.add (system (start .args .system .now) (start .args .counts .now)) b (start .args .damping)) (c .before .before .before .before .before .before .before .before .before .before .block .ensures) in
     changes _ _ _ _ _ _ _ _ _ _ (c .before .before .before .before .before .before .before .before .before .before .before .before .before .before .if1 .left) (ap (λ (a : Added). a .refusal) e) (ap (λ (a : Added). a .system) e) (c .before .before .before .before .answer .ensures)
 
 pub system-add-spec : {M : Type 1} → statement M

@@ -29,7 +29,7 @@ returns-2 c =
     let f = fit (c .before .before .before .before .before .before .before .before .before .before .before .before .before) in
     let e =
     c .before .before .before .before .before .before .before .before .before .finish-damping .ensures
-    ∙ ap (λ (s : ReducedSystem). Model.finishDamping s (c .before .before .before .before .before .before .before .before .before .before .before .before .before .before .before .before .args .damping)) (c .before .before .before .before .before .before .before .before .before .before .system .ensures (f .0) (f .1)) in
+    ∙ ap (λ (s : ReducedSystem). Model.finishDamping s (c .before .before .before .before .before .before .before .before .before .before .before .before .before .before .before .before .args .damping)) (c .before .before .before .before .before .before .before .before .before .before .system .ensures) in
     changes _ _ _ _ _ _ _ _ _ _ (c .before .before .before .before .before .before .before .before .before .before .before .before .before .if1 .left) (ap (λ (a : Added). a .refusal) e) (ap (λ (a : Added). a .system) e) (c .before .before .before .before .answer .ensures)
 
 pub system-finish-damping-spec : {M : Type 1} → statement M

@@ -33,7 +33,7 @@ returns-2 c =
     let e =
     c .before .before .flag .ensures
     ∙ ap (λ (b : Bool). flag b) (c .before .before .before .is-valid .ensures)
-    ∙ ap (λ (s : ReducedSystem). flag (Model.isValid s)) (c .before .before .before .before .system .ensures (f .0) (f .1)) in
+    ∙ ap (λ (s : ReducedSystem). flag (Model.isValid s)) (c .before .before .before .before .system .ensures) in
     answers-none _ _ _ _ _ (c .before .before .before .before .before .if1 .left) (c .code .ensures ∙ ap code (c .before .none .ensures)) (one-set (c .before .before .before .before .before .before .before .before .before .args .out .now) _ (fit (c .before .before .before .before .before) .2) ∙ ap (λ (n : ℕ). n ∷ []) e)
 
 pub system-is-valid-spec : {M : Type 1} → statement M

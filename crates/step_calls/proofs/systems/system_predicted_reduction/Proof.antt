@@ -27,7 +27,7 @@ returns-2 c =
     let start = c .before .before .before .before .before .before .before .before .before .before .before .before .before .before in
     let e =
     c .before .before .before .before .before .before .predicted-reduction .ensures
-    ∙ ap (λ (s : ReducedSystem). Model.predictedReduction s (c .before .before .before .before .before .before .before .vector5 .result) (start .args .damping) (start .args .point-damping-norm)) (c .before .before .before .before .before .before .before .before .system .ensures (f .0) (f .1))
+    ∙ ap (λ (s : ReducedSystem). Model.predictedReduction s (c .before .before .before .before .before .before .before .vector5 .result) (start .args .damping) (start .args .point-damping-norm)) (c .before .before .before .before .before .before .before .before .system .ensures)
     ∙ ap (λ (l : List Float). Model.predictedReduction (system (start .args .system .now) (start .args .counts .now)) l (start .args .damping) (start .args .point-damping-norm)) (whole _ 5 _ (f .2) (c .before .before .before .before .before .before .before .vector5 .ensures)) in
     answers _ _ _ _ _ _ _ _ (c .before .before .before .before .before .before .before .before .before .if1 .left) (ap (λ (p : Predicted). p .refusal) e) (ap (λ (p : Predicted). p .reduction ∷ []) e) (sym (f .3)) (c .before .before .answer .ensures)
 

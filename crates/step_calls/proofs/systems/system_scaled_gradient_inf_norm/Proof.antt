@@ -24,7 +24,7 @@ returns-2 c =
     let f = fit (c .before .before .before .before .before .before .before .before) in
     let e =
     c .before .before .before .before .before .before .scaled-gradient-inf-norm .ensures
-    ∙ ap (λ (s : ReducedSystem). Model.gradientInfNorm s) (c .before .before .before .before .before .before .before .system .ensures (f .0) (f .1)) in
+    ∙ ap (λ (s : ReducedSystem). Model.gradientInfNorm s) (c .before .before .before .before .before .before .before .system .ensures) in
     answers _ _ _ _ _ _ _ _ (c .before .before .before .before .before .before .before .before .if1 .left) (c .before .before .before .before .before .none .ensures) (ap (λ (x : Float). x ∷ []) e) (sym (f .2)) (c .before .before .answer .ensures)
 
 pub system-scaled-gradient-inf-norm-spec : {M : Type 1} → statement M
