@@ -28,7 +28,7 @@ use Rattle.text.specs.Text.{space, lineFeed, digit, withoutZeros, decimal, past
 use Rattle.lines.specs.Lines.{bitsThen, runLine, letter, pointLine, validity, verdict, sumLine, refusedLine}
 use Rattle.record.specs.Lists.{pointLines, linesOf, refused, list, maxList, NeverNan, Wrote}
 use Rattle.record_form.proofs.Forms.{formed, few-points}
-use Rattle.text.proofs.Puts.{pasted-length}
+use Rattle.text.proofs.Puts.{put-fits, put-length}
 
 -- ---- decimals
 
@@ -186,7 +186,7 @@ sums-are-numbers r e = let n = costs-are-numbers (run r) (checked (run r) (after
 
 module _ (r room : List ℕ) (l : ℕ) (after : List ℕ) (h : length room ≡ maxList) (p : Put (list r) 0 room l after) where
   put-list : (l ≡ length (list r)) × (after ≡ pasted room 0 (list r))
-  put-list = let k = list-fits r in let q = p (omega arith) in (q .0 ∙ zero-add (length (list r)), q .1)
+  put-list = let k = list-fits r in let q = put-fits (list r) 0 room l after p (omega arith) in (q .0 ∙ zero-add (length (list r)), q .1)
 
   pub made : take l after ≡ list r
   made =
@@ -195,7 +195,7 @@ module _ (r room : List ℕ) (l : ℕ) (after : List ℕ) (h : length room ≡ m
       ∙ take-at (list r) (drop (0 + length (list r)) room) (length (list r)) refl
 
   pub made-length : l ≤ length after
-  made-length = let k = list-fits r in let a = put-list .0 in let b = ap length (put-list .1) ∙ pasted-length room 0 (list r) (omega arith) in omega arith
+  made-length = let k = list-fits r in let a = put-list .0 in let b = put-length (list r) 0 room l after p in omega arith
 
   short : l ≤ maxList
   short = let k = list-fits r in let a = put-list .0 in omega arith
@@ -217,5 +217,5 @@ module _ (r room : List ℕ) (l : ℕ) (after : List ℕ) (h : length room ≡ m
           same-length = put-list .0;
           bound = short;
           fits = sym (ap (λ (n : ℕ). leb n (length out)) (sym (put-list .0)) ∙ not-false (leb l (length out)) t);
-          same-out = q (omega arith) .1 ∙ ap (λ (x : List ℕ). pasted out 0 x) made;
+          same-out = put-fits (take l after) 0 out next end q (omega arith) .1 ∙ ap (λ (x : List ℕ). pasted out 0 x) made;
         }

@@ -18,6 +18,8 @@ use Rattle.linearization.specs.declared.views.Correspondence.{Correspondence}
 use Rattle.linearization.specs.declared.linearize.LocalLinearization.{LocalLinearization}
 use Rattle.optimizer.specs.declared.Rig.{Rig}
 use Rattle.optimizer.specs.Problem.{Problem, problem, correspondenceAt, blockOf, blockAt}
+use Rattle.optimizer.specs.Step.{reduced}
+use Rattle.optimizer.specs.declared.reduced.Reduced.{Reduced}
 use Rattle.record_form.specs.Form.{camera1At, camera2At, poseAt, basisAt, pointFields}
 use Rattle.record.specs.Run.{numberAt, twoAt, threeAt, numbersAt, cameraAt, rig, damping, column, run, correspondenceOf}
 use Rattle.lines.specs.Lines.{letter, pointLine}
@@ -95,12 +97,12 @@ quotient j each n h k = (by (ltb (j / each) n) refl, mod-lt j h)
 pub front-filled : (l h : List Float) (f : ℕ → Float) (k n : ℕ) → h ≡ filled l f k → k ≡ n → take n h ≡ tabulate n f
 front-filled l h f k n e g = ap (λ (x : List Float). take n x) (e ∙ ap (λ (m : ℕ). filled l f m) g) ∙ take-at (tabulate n f) (drop n l) n (length-tabulate n f)
 
--- the four columns, the rig and the damping are the run
-pub run-is : (r : List ℕ) (p v w d : List Float) (x : Rig) (y : Float) (lp lv lw ld : ℕ) → p ≡ tabulate lp (column r 0 3) → lp ≡ 3 * pointFields r → v ≡ tabulate lv (column r 24 2)
-    → lv ≡ 2 * pointFields r → w ≡ tabulate lw (column r 40 2) → lw ≡ 2 * pointFields r → d ≡ tabulate ld (column r 56 1) → ld ≡ pointFields r → x ≡ rig r → y ≡ damping r
-    → problem p v w d x y ≡ run r
+-- the four columns, the rig and the damping are the run, so that their system is its system
+pub reduced-is : (r : List ℕ) (p v w d : List Float) (x : Rig) (y : Float) (lp lv lw ld : ℕ) (s : Reduced) → p ≡ tabulate lp (column r 0 3) → lp ≡ 3 * pointFields r
+    → v ≡ tabulate lv (column r 24 2) → lv ≡ 2 * pointFields r → w ≡ tabulate lw (column r 40 2) → lw ≡ 2 * pointFields r → d ≡ tabulate ld (column r 56 1) → ld ≡ pointFields r
+    → x ≡ rig r → y ≡ damping r → s ≡ reduced (problem p v w d x y) → s ≡ reduced (run r)
 unfolding run
-run-is r p v w d x y lp lv lw ld e₁ e₂ e₃ e₄ e₅ e₆ e₇ e₈ e₉ e = rw (e₁, e₂, e₃, e₄, e₅, e₆, e₇, e₈, e₉, e) refl
+reduced-is r p v w d x y lp lv lw ld s e₁ e₂ e₃ e₄ e₅ e₆ e₇ e₈ e₉ e q = q ∙ rw (e₁, e₂, e₃, e₄, e₅, e₆, e₇, e₈, e₉, e) refl
 
 -- numbers that were read one by one
 module _ (r : List ℕ) (at : ℕ) where

@@ -1,5 +1,5 @@
 -- Text in ASCII.
-use Prim.Native.Nat.{ℕ, zero, suc, _+_, _/_, _%_, _^_, _≤_}
+use Prim.Native.Nat.{ℕ, zero, suc, _+_, _-_, _/_, _%_, _^_}
 use mathlib.Core.Path.{_≡_}
 use mathlib.Core.Bool.{cond}
 use mathlib.Core.List.{List, [], _∷_, _++_}
@@ -44,6 +44,10 @@ decimal n = withoutZeros 9 (tenDigits n)
 abbrev pub pasted : List ℕ → ℕ → List ℕ → List ℕ
 pasted out at text = take at out ++ text ++ drop (at + length text) out
 
--- what a call leaves that puts a text into out from an offset on, where it fits: the next offset, and out
-abbrev pub Put : List ℕ → ℕ → List ℕ → ℕ → List ℕ → Type 0
-Put text at out next after = at + length text ≤ length out → (next ≡ at + length text) × (after ≡ pasted out at text)
+-- as much of a text as fits into out behind an offset
+abbrev pub fitting : List ℕ → ℕ → List ℕ → List ℕ
+fitting out at text = take (length out - at) text
+
+-- what a call leaves that puts a text into out from an offset on, as much of it as fits: the next offset, and out
+unfoldable pub Put : List ℕ → ℕ → List ℕ → ℕ → List ℕ → Type 0
+Put text at out next after = (next ≡ at + length (fitting out at text)) × (after ≡ pasted out at (fitting out at text))

@@ -1,31 +1,33 @@
 // Text in a lent buffer.
 ghost use mathlib.Core.List.{_++_};
 ghost use mathlib.Core.Path.{_≡_};
-ghost use Prim.Native.Nat.{_≤_, _+_};
+ghost use Prim.Native.Nat.{_≤_, _-_, min};
 ghost use lib.ListN.{length, drop};
 ghost use Rattle.text.specs.Text as Text;
 
-// Puts a text into out where it fits, and answers the next free place; else it writes nothing.
+// Puts as much of a text into out as fits from an offset on, and answers the place behind it.
 pub fn put(out: &mut [u8], at: usize, text: &[u8]) -> usize
     ensures { λ r. ⌜ Text.Put (now (text .entry)) at (now (out .entry)) r (now (out .exit)) ⌝ }
 {
-    if !(at <= out.len()) {
-        return at;
-    }
-    if !(text.len() <= out.len() - at) {
-        return at;
-    }
-    copy(out, at, text);
-    at + text.len()
-}
-
-fn copy(out: &mut [u8], at: usize, text: &[u8])
-    requires { ⌜ at + length (now text) ≤ length (now out) ⌝ }
-    ensures { λ _. ⌜ now (out .exit) ≡ Text.pasted (now (out .entry)) at (now (text .entry)) ⌝ }
-{
-    for i in 0..text.len() {
+    let n = fitting(out.len(), at, text.len());
+    for i in 0..n {
         out[at + i] = text[i];
     }
+    at + n
+}
+
+// How many of a text's bytes fit
+fn fitting(room: usize, at: usize, size: usize) -> usize
+    ensures { λ r. ⌜ r ≡ min (room - at) size ⌝ }
+{
+    if room <= at {
+        return 0;
+    }
+    let left = room - at;
+    if left <= size {
+        return left;
+    }
+    size
 }
 
 fn digit(n: u32) -> u8

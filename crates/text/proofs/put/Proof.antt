@@ -1,41 +1,58 @@
 -- `text::put` meets its contract. Assumes nothing.
-use mathlib.Core.List.{[]}
-use lib.ListN.{length}
-use Rattle.text.proofs.Puts.{past-end, no-room, fits}
-use borrow.Author.Tests.{leb-true, not-false}
-use mathlib.Core.Path.{refl}
-use Prim.Native.Nat.{_+_, _≤_}
+use lib.ListN.{length, length-set, set, getD}
+use lib.Seq.{paste, paste-zero}
+use mathlib.Core.List.{List}
+use mathlib.Core.Path.{ap, _∙_, _≡_, refl}
+use Prim.Native.Nat.{ℕ, _+_, _-_, _≤_}
+use Rattle.text.proofs.Puts.{put-of, paste-next}
 use native.Mathlib.Omega.{arith}
 use borrow.Author.Needs.{needs}
 use Rattle.text.proofs.put.Statement.{statement}
 use Rattle.text.proofs.put.Tie as tie
 
-before : (c : tie.Else1) → c .before .before .before .args .at ≤ length (c .before .before .before .args .out .now)
-before c = leb-true _ _ (not-false _ (c .if1 .left))
+abbrev Inv-loop : tie.InvT-loop
+Inv-loop out₀ at text n i₀ out i = (i ≤ n) × (length out ≡ length out₀) × (out ≡ paste out₀ at text i)
 
-room : (c : tie.After-copy-arg) → c .before .before .before .before .before .args .at + length (c .before .before .before .before .before .args .text .now) ≤ length (c .before .before .before .before .before .args .out .now)
-room c = fits (c .before .before .before .before .before .args .text .now) (c .before .before .before .before .before .args .at) (c .before .before .before .before .before .args .out .now) 0 [] (c .before .before .if1 .left) (c .before .if2 .left)
+abbrev μ-loop : tie.MeasureT-loop
+μ-loop out₀ at text n i₀ out i = n - i
 
-returns : tie.Need-returns
-returns c = past-end _ _ _ _ _ (c .if1 .taken)
+loop-holds : tie.Need-loop-holds Inv-loop μ-loop
+loop-holds c = let a = c .before .before .before .args in (omega arith, refl, paste-zero (a .out .now) (a .at) (a .text .now))
 
-returns-2 : tie.Need-returns-2
-returns-2 c = no-room _ _ _ _ _ (c .before .if1 .left) (c .if2 .taken)
+loop-again : tie.Need-loop-again Inv-loop μ-loop
+loop-again c =
+    let l = c .before .before in
+    let a = l .before .before .before .before .args in (
+      omega arith,
+      length-set (l .loop .out) _ _ ∙ l .loop .inv .1,
+      ap (λ (t : List ℕ). set t (a .at + l .loop .i) (getD (a .text .now) (l .loop .i) 0)) (l .loop .inv .2) ∙ paste-next (a .out .now) (a .at) (a .text .now) (l .loop .i) (omega arith) (omega arith),
+    )
 
-same-length : tie.Need-same-length
-same-length c = search needs
+same-length : tie.Need-same-length Inv-loop μ-loop
+same-length c = c .before .loop .inv .1
 
-returns-3 : tie.Need-returns-3
-returns-3 c = λ h. (refl, c .before .before .copy .ensures)
+returns : tie.Need-returns Inv-loop μ-loop
+returns c =
+    let l = c .before in
+    let a = l .before .before .before .before .args in
+    let n = l .before .fitting .result in
+    let e : l .loop .i ≡ n = omega arith in
+    put-of (a .text .now) (a .at) (a .out .now) n _ (l .before .fitting .ensures) (l .loop .inv .2 ∙ ap (λ (k : ℕ). paste (a .out .now) (a .at) (a .text .now) k) e)
 
 pub put-spec : {M : Type 1} → statement M
 put-spec =
     tie.close
     (tie.spec
-    returns
-    (λ c. omega (arith, before c))
-    returns-2
-    (λ c κs. room c)
-    (λ c. omega (arith, room (c .before .before .before)))
+    Inv-loop
+    μ-loop
+    (λ c κs. search needs)
+    loop-holds
+    (λ c. omega arith)
+    (λ c. omega arith)
+    (λ c. omega arith)
+    (λ c. omega arith)
+    (λ c. omega arith)
+    loop-again
+    (λ c. omega arith)
     same-length
-    returns-3)
+    returns)

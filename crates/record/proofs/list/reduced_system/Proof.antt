@@ -1,10 +1,9 @@
 -- `record::list::reduced_system` meets its contract. Assumes nothing.
-use mathlib.Core.Path.{sym, ap, _∙_}
+use mathlib.Core.Path.{sym, ap}
 use Prim.Native.Nat.{ℕ, _*_, _≤_}
 use lib.Seq.{length-take-le}
 use Rattle.record_form.proofs.Forms.{few-points}
-use Rattle.optimizer.specs.Step.{reduced}
-use Rattle.record.proofs.Runs.{run-is}
+use Rattle.record.proofs.Runs.{reduced-is}
 use native.Mathlib.Omega.{arith}
 use borrow.Author.Needs.{needs}
 use Rattle.record.proofs.list.reduced_system.Statement.{statement}
@@ -20,10 +19,8 @@ returns c =
     let pre = fields .before .before .pre in
     let e = fields .point-fields .ensures in
     let e₂ = ap (λ (k : ℕ). 2 * k) e in
-    c .reduced-system .ensures
-    ∙ ap reduced
-    (run-is (fields .before .before .args .«record» .now) _ _ _ _ _ _ _ _ _ _ (columns .before .before .before .column .ensures) (ap (λ (k : ℕ). 3 * k) e) (columns .before .before .column2 .ensures)
-    e₂ (columns .before .column3 .ensures) e₂ (columns .column4 .ensures) e (pre .1) (pre .2))
+    reduced-is (fields .before .before .args .«record» .now) _ _ _ _ _ _ _ _ _ _ _ (columns .before .before .before .column .ensures) (ap (λ (k : ℕ). 3 * k) e) (columns .before .before .column2 .ensures)
+    e₂ (columns .before .column3 .ensures) e₂ (columns .column4 .ensures) e (pre .1) (pre .2) (c .reduced-system .ensures)
 
 pub reduced-system-spec : {M : Type 1} → statement M
 reduced-system-spec =
