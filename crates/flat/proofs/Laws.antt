@@ -17,7 +17,7 @@ use Rattle.linearization.specs.declared.views.Correspondence.{Correspondence}
 use Rattle.linearization.specs.declared.linearize.LocalLinearization.{LocalLinearization}
 use Rattle.linearization.specs.declared.views.Pose.{Pose}
 use Rattle.schur.specs.declared.system.ReducedSystem.{ReducedSystem}
-use Rattle.optimizer.specs.declared.Rig.{Rig}
+use Rattle.checks.specs.declared.Rig.{Rig}
 use Rattle.flat.specs.Flat.{part, put, camera, pose, rig, correspondence, block, system}
 use Rattle.flat.specs.Answers.{code, lengthsCode, stored, answer, Answered}
 

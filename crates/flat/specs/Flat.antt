@@ -16,7 +16,7 @@ use Rattle.linearization.specs.declared.linearize.LocalLinearization.{LocalLine
 use Rattle.linearization.specs.declared.views.Pose.{Pose}
 use Rattle.schur.specs.declared.system.ReducedSystem.{ReducedSystem}
 use Rattle.point_step.specs.declared.PointStep.{PointStep}
-use Rattle.optimizer.specs.declared.Rig.{Rig}
+use Rattle.checks.specs.declared.Rig.{Rig}
 use Rattle.optimizer.specs.declared.StepResult.{StepResult}
 
 -- the numbers from one place up to another
