@@ -1,8 +1,8 @@
 // SPDX-FileCopyrightText: 2026 Pierre Moulon and OpenMVG Rust contributors
 // SPDX-License-Identifier: MIT OR Apache-2.0
 
-// One correspondence of the lent lists: its point, what each view saw of it, and how a view projects it. Beyond the end of
-// a list stands a NaN, as in the definitions.
+// One correspondence of the lent lists: its point, what each view saw of it, and how a view projects it. Beyond the end
+// of a list stands a NaN, as in the definitions.
 ghost use mathlib.Core.Path.{_≡_};
 ghost use Prim.Native.Nat.{_<_, _*_, _+_};
 ghost use lib.ListN.{length};
@@ -43,6 +43,7 @@ pub(crate) fn observation<'a>(view1: &'a [f64], view2: &'a [f64], view: u32, i: 
     }
 }
 
+// The correspondence at an index, which may lie beyond the end
 pub fn correspondence_at(
     points: &[f64],
     view1: &[f64],

@@ -1,2 +1,2 @@
--- Module 6 of document 01, and "One whole step": optimizer.rs and residual.rs.
+-- Module 6 of document 01, and "One whole step": optimizer.rs.
 pub mod Step
