@@ -3,8 +3,8 @@
 ghost use mathlib.Core.Path.{_≡_};
 ghost use Prim.Native.Nat.{_≤_};
 ghost use lib.ListN.{length};
+use checks::Rig;
 use linearization::Pose;
-use optimizer::Rig;
 use optimizer::StepResult;
 use projection::PinholeCamera;
 

@@ -15,7 +15,7 @@ use Rattle.linearization.specs.declared.views.Correspondence.{Correspondence}
 use Rattle.linearization.specs.declared.linearize.LocalLinearization.{LocalLinearization}
 use Rattle.schur.specs.declared.system.ReducedSystem.{ReducedSystem}
 use Rattle.point_step.specs.declared.PointStep.{PointStep}
-use Rattle.optimizer.specs.declared.Rig.{Rig}
+use Rattle.checks.specs.declared.Rig.{Rig}
 use Rattle.optimizer.specs.declared.StepResult.{StepResult}
 
 -- n numbers from a place on; beyond the end they are NaN

@@ -2,10 +2,10 @@
 ghost use mathlib.Core.Path.{_≡_};
 ghost use Rattle.flat.specs.Flat as Flat;
 use crate::memory;
+use checks::Rig;
 use linearization::Correspondence;
 use linearization::LocalLinearization;
 use linearization::Pose;
-use optimizer::Rig;
 use optimizer::StepResult;
 use point_block::LoneFactor;
 use point_step::PointStep;

@@ -1,5 +1,4 @@
--- Laws of the checks, the sums over all points, and what holds of the point steps.
-pub mod Parts
-pub mod Passes
+-- The sums over all points, the ways out of a step, and what holds of the point steps.
+mod Passes
 pub mod PointSteps
-pub mod Whole
+mod Whole

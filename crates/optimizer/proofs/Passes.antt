@@ -21,8 +21,8 @@ use Rattle.linearization.specs.declared.views.Correspondence.{Correspondence}
 use Rattle.point_step.specs.declared.PointStep.{PointStep}
 use Rattle.schur.specs.declared.system.ReducedSystem.{ReducedSystem}
 use Rattle.schur.specs.declared.system.Added.{Added}
-use Rattle.optimizer.specs.Problem.{Problem, count, correspondenceAt, blockOf}
-use Rattle.optimizer.specs.Step.{systemTo, reducedSystem, pointStepOf, stepAt, stepsTo, squaredNorm, sumsTo}
+use Rattle.checks.specs.Problem.{Problem, count, correspondenceAt}
+use Rattle.optimizer.specs.Step.{blockOf, systemTo, reducedSystem, pointStepOf, stepAt, stepsTo, squaredNorm, sumsTo}
 
 abbrev correspondence : Problem → ℕ → Correspondence
 correspondence p i = correspondenceAt (p .points) (p .view1) (p .view2) (p .deviations) i

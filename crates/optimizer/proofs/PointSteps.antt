@@ -24,9 +24,9 @@ use Rattle.schur.specs.Calls.{Inputs, Call, atDamping, after, factors, smallRco
 use Rattle.linearization.specs.declared.linearize.LocalLinearization.{LocalLinearization}
 use Rattle.schur.specs.declared.system.ReducedSystem.{ReducedSystem}
 use Rattle.schur.proofs.Claim.{claim}
-use Rattle.optimizer.specs.Problem.{Problem, count, correspondenceAt, blockOf, blockAt}
-use Rattle.optimizer.specs.Step.{systemTo, reducedSystem, pointStepOf, stepAt}
-use Rattle.optimizer.proofs.Parts.{both-hold}
+use Rattle.checks.specs.Problem.{Problem, count, correspondenceAt}
+use Rattle.checks.proofs.Passed.{both-hold}
+use Rattle.optimizer.specs.Step.{blockOf, blockAt, systemTo, reducedSystem, pointStepOf, stepAt}
 
 -- ---- the problem's blocks as calls of `add`, from an index on
 

@@ -1,29 +1,28 @@
 -- The whole step: what each way out of it gives. Assumes nothing.
-use mathlib.Core.Path.{_≡_, refl, sym, ap, _∙_, subst}
+use mathlib.Core.Path.{_≡_, refl, sym, ap, _∙_}
 use mathlib.Core.Bool.{Bool, true, false, not, true≢false}
 use mathlib.Core.List.{List}
 use Prim.Native.Nat.{ℕ, _*_}
-use borrow.Author.Tests.{not-true, not-false, eqb-true}
-use lib.Dec.{T, eqb, leb}
+use borrow.Author.Tests.{not-true, not-false, eqb-true, ne-eqb}
+use lib.Dec.{eqb}
 use lib.ListN.{length}
 use lib.Ieee.{Float}
 use Rattle.refusal.specs.Rows as Rows
-use Rattle.refusal.specs.First.{unless}
+use Rattle.refusal.specs.First.{unless, orElse}
 use Rattle.refusal.specs.Refused.{of, none, isNone}
 use Rattle.refusal.specs.declared.Refusal.{Refusal}
-use Rattle.point_block.specs.Lone.{goodDamping}
 use Rattle.solver.specs.Solver.{solvePositiveDefinite}
 use Rattle.solver.specs.declared.Solved.{Solved}
 use Rattle.schur.specs.Model.{isValid}
 use Rattle.schur.specs.declared.system.ReducedSystem.{ReducedSystem}
 use Rattle.optimizer.specs.declared.StepResult.{StepResult}
 use Rattle.optimizer.specs.declared.point_steps.Sums.{Sums}
-use Rattle.optimizer.specs.Problem.{Problem, count}
-use Rattle.optimizer.specs.Checks as Checks
+use Rattle.checks.specs.Problem.{Problem, count}
+use Rattle.checks.specs.Checks as Checks
 use Rattle.pose_step.specs.PoseStep.{poseStep}
 use Rattle.optimizer.specs.Step.{reducedSystem, noSystem, reduced, solvedOf, poseStepOf, stepsTo, sumsTo, finished, notStepped, stepped, solvedStep, refused, step, written, Done}
-use Rattle.refusal.proofs.Scans.{stop-unless, pass-unless, row-refuses, after-none, held}
-use Rattle.optimizer.proofs.Parts.{all-fit}
+use Rattle.refusal.proofs.Scans.{row-refuses}
+use Rattle.checks.proofs.Passed.{checked}
 use Rattle.optimizer.proofs.PointSteps.{no-step-refused}
 
 -- rows 10 and 11, and the step
@@ -67,24 +66,8 @@ module _ (p : Problem) (room : List Float) (r : StepResult) (system : ReducedSys
         m .1 ∙ ap (λ (y : List Float). stepsTo p y (count p)) same-step ∙ sym writes,
       )
 
--- ---- what a step that is not refused says of the checks before it
-
-pub checked : (p : Problem) → isNone (Checks.refused p) ≡ true → Checks.Fits (p .points) (p .view1) (p .view2) (p .deviations) × T (goodDamping (p .damping))
-unfolding Checks.refused Checks.valuesRefused
-checked p e =
-    let lengths = after-none (unless (Checks.lengthsFit p) (of Rows.lengths)) _ e in
-    let points = after-none (unless (leb (count p) Checks.maxPoints) (of Rows.tooManyPoints)) (Checks.valuesRefused p) (lengths .1) in
-    let damping = after-none (unless (goodDamping (p .damping)) (of Rows.damping)) _ (points .1) in
-    let fit = ap not (held (Checks.lengthsFit p) (of Rows.lengths) (row-refuses Rows.lengths 0 0 refl) (lengths .0)) in
-    let few = ap not (held (leb (count p) Checks.maxPoints) (of Rows.tooManyPoints) (row-refuses Rows.tooManyPoints 0 0 refl) (points .0)) in
-    let good = held (goodDamping (p .damping)) (of Rows.damping) (row-refuses Rows.damping 0 0 refl) (damping .0) in
-    (all-fit _ _ _ _ _ _ _ refl refl refl fit few, subst T (sym good) tt)
-
 pub passed : (x v : Refusal) (b : Bool) → v ≡ x → b ≡ isNone v → not b ≡ false → isNone x ≡ true
 passed x v b e f t = ap isNone (sym e) ∙ sym f ∙ not-false b t
-
-pub room-fits : (b : Bool) (l n : ℕ) → b ≡ eqb l n → not b ≡ false → l ≡ n
-room-fits b l n e t = eqb-true l n (sym e ∙ not-false b t)
 
 module _ (p : Problem) (v : Refusal) (e : v ≡ Checks.refused p) (b : Bool) (f : b ≡ isNone v) (s : ReducedSystem) where
   pub not-reduced : not b ≡ true → s ≡ noSystem → record { system = s; refusal = v } ≡ reduced p
@@ -94,6 +77,28 @@ module _ (p : Problem) (v : Refusal) (e : v ≡ Checks.refused p) (b : Bool) (f 
   pub reduces : not b ≡ false → s ≡ reducedSystem p → (n : Refusal) → n ≡ none → record { system = s; refusal = n } ≡ reduced p
   unfolding reduced
   reduces t g n h = rw (← e, ← f, not-false b t, g, h) refl
+
+-- ---- row 1 with the room: the points' length decides where the two agree, and one of them is wrong where they do not
+
+points-short : (p : Problem) → eqb (length (p .points)) (3 * count p) ≡ false → Checks.refused p ≡ of Rows.lengths
+unfolding Checks.refused isNone
+points-short p e = rw e refl
+
+lengths-differ : (p : Problem) (room : ℕ) → (room ≡ length (p .points) → ⊥) → refused p room ≡ of Rows.lengths
+unfolding refused isNone
+lengths-differ p room t = by (eqb room (3 * count p)) refl
+  where
+    by : (b : Bool) → eqb room (3 * count p) ≡ b → orElse (unless b (of Rows.lengths)) (Checks.refused p) ≡ of Rows.lengths
+    by true q = points-short p (ne-eqb (length (p .points)) (3 * count p) (λ k. t (eqb-true room (3 * count p) q ∙ sym k)))
+    by false q = refl
+
+lengths-agree : (p : Problem) (room : ℕ) → room ≡ length (p .points) → refused p room ≡ Checks.refused p
+unfolding refused isNone
+lengths-agree p room t = by (eqb room (3 * count p)) refl
+  where
+    by : (b : Bool) → eqb room (3 * count p) ≡ b → orElse (unless b (of Rows.lengths)) (Checks.refused p) ≡ Checks.refused p
+    by true q = refl
+    by false q = sym (points-short p (ap (λ (l : ℕ). eqb l (3 * count p)) (sym t) ∙ q))
 
 -- ---- the ways out of the whole step
 
@@ -106,27 +111,21 @@ module _ (p : Problem) (room : List Float) (r : StepResult) where
     none-refused = λ y. absurd (true≢false (sym y ∙ ap isNone e ∙ n));
   }
 
-  module _ (fits : Bool) (e : fits ≡ eqb (length room) (3 * count p)) where
-    pub wrong-room : not fits ≡ true → (x : Refusal) → x ≡ of Rows.lengths → r ≡ notStepped x → Done p room r room
-    unfolding refused
-    wrong-room t x g h =
-        refuses (of Rows.lengths) (row-refuses Rows.lengths 0 0 refl)
-        (sym (stop-unless (of Rows.lengths) (Checks.refused p) (of Rows.lengths) (eqb (length room) (3 * count p)) fits e refl t refl))
-        (h ∙ ap notStepped g)
+  pub wrong-room : (length room ≡ length (p .points) → ⊥) → (x : Refusal) → x ≡ of Rows.lengths → r ≡ notStepped x → Done p room r room
+  wrong-room t x g h = refuses (of Rows.lengths) (row-refuses Rows.lengths 0 0 refl) (lengths-differ p (length room) t) (h ∙ ap notStepped g)
 
-    module _ (t : not fits ≡ false) (v : Refusal) (f : v ≡ Checks.refused p) (b : Bool) (g : b ≡ isNone v) where
-      same-refusal : refused p (length room) ≡ v
-      unfolding refused
-      same-refusal = sym (pass-unless (of Rows.lengths) (Checks.refused p) v (eqb (length room) (3 * count p)) fits e t f)
+  module _ (t : length room ≡ length (p .points)) (v : Refusal) (f : v ≡ Checks.refused p) (b : Bool) (g : b ≡ isNone v) where
+    same-refusal : refused p (length room) ≡ v
+    same-refusal = lengths-agree p (length room) t ∙ sym f
 
-      pub checks-refused : not b ≡ true → r ≡ notStepped v → Done p room r room
-      checks-refused u h = refuses v (sym g ∙ not-true b u) same-refusal h
+    pub checks-refused : not b ≡ true → r ≡ notStepped v → Done p room r room
+    checks-refused u h = refuses v (sym g ∙ not-true b u) same-refusal h
 
-      pub done : not b ≡ false → (after : List Float) → (r ≡ solvedStep p) × (after ≡ written p r room) → Done p room r after
-      unfolding step
-      done u after m =
-          let k = checked p (passed (Checks.refused p) v b f g u) in record {
-            result = m .0 ∙ rw (same-refusal, ← g, not-false b u) refl;
-            room-after = m .1;
-            none-refused = λ y v. no-step-refused p (k .1) (k .0 .3) v;
-          }
+    pub done : not b ≡ false → (after : List Float) → (r ≡ solvedStep p) × (after ≡ written p r room) → Done p room r after
+    unfolding step
+    done u after m =
+        let k = checked p (passed (Checks.refused p) v b f g u) in record {
+          result = m .0 ∙ rw (same-refusal, ← g, not-false b u) refl;
+          room-after = m .1;
+          none-refused = λ y v. no-step-refused p (k .1) (k .0 .3) v;
+        }

@@ -14,6 +14,12 @@ use Rattle.refusal.specs.Rows as Rows
 use Rattle.refusal.specs.First.{unless, orElse}
 use Rattle.refusal.specs.Refused.{of, none, isNone}
 use Rattle.refusal.specs.declared.Refusal.{Refusal}
+use Rattle.linearization.specs.Linearize.{linearizePoint}
+use Rattle.linearization.specs.declared.linearize.LocalLinearization.{LocalLinearization}
+use Rattle.linearization.specs.declared.views.Correspondence.{Correspondence}
+use Rattle.checks.specs.Problem.{Problem, count, correspondenceAt}
+use Rattle.checks.specs.Checks as Checks
+use Rattle.checks.specs.declared.Rig.{Rig}
 use Rattle.solver.specs.Solver.{solvePositiveDefinite}
 use Rattle.solver.specs.declared.Solved.{Solved}
 use Rattle.schur.specs.System.{newSystem, add}
@@ -21,14 +27,17 @@ use Rattle.schur.specs.Model.{finishDamping, isValid, gradientInfNorm, predicte
 use Rattle.point_step.specs.PointStep.{pointStep}
 use Rattle.pose_step.specs.PoseStep.{squared, poseStep}
 use Rattle.schur.specs.declared.system.ReducedSystem.{ReducedSystem}
-use Rattle.linearization.specs.declared.views.Correspondence.{Correspondence}
 use Rattle.point_step.specs.declared.PointStep.{PointStep}
-use Rattle.optimizer.specs.declared.Rig.{Rig}
 use Rattle.optimizer.specs.declared.StepResult.{StepResult}
 use Rattle.optimizer.specs.declared.point_steps.Sums.{Sums}
 use Rattle.optimizer.specs.declared.reduced.Reduced.{Reduced}
-use Rattle.optimizer.specs.Problem.{Problem, count, correspondenceAt, blockOf, blockAt}
-use Rattle.optimizer.specs.Checks as Checks
+
+-- the block of a correspondence
+unfoldable pub blockOf : Rig → Correspondence → LocalLinearization
+blockOf h correspondence = linearizePoint (h .camera1) (h .camera2) (h .pose) correspondence
+
+abbrev pub blockAt : Problem → ℕ → LocalLinearization
+blockAt p i = blockOf (p .rig) (correspondenceAt (p .points) (p .view1) (p .view2) (p .deviations) i)
 
 -- the system with the first blocks added, in their order
 unfoldable pub systemTo : Problem → ℕ → ReducedSystem

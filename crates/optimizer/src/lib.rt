@@ -1,27 +1,15 @@
 // SPDX-FileCopyrightText: 2026 Pierre Moulon and OpenMVG Rust contributors
 // SPDX-License-Identifier: MIT OR Apache-2.0
 
-// One whole step of the two-view problem over lent memory: kernel/two_view/optimizer.rs, residual.rs.
-mod checks;
-mod correspondences;
+// One whole step of the two-view problem over lent memory: kernel/two_view/optimizer.rs.
 mod point_steps;
 mod reduced;
 mod whole_step;
 
-pub use checks::refused;
-use linearization::Pose;
-use projection::PinholeCamera;
 pub use reduced::Reduced;
 pub use reduced::reduced_system;
 use refusal::Refusal;
 pub use whole_step::step;
-
-// The two cameras, and how the second one sits
-pub struct Rig {
-    pub camera1: PinholeCamera,
-    pub camera2: PinholeCamera,
-    pub pose: Pose,
-}
 
 // What a whole step gives; beside a refusal every number is +0.
 pub struct StepResult {

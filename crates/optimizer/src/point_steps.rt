@@ -3,14 +3,15 @@
 
 // How all points move with a step of the pose: the steps in the lent room, and their sums.
 ghost use mathlib.Core.Path.{_≡_};
-ghost use Prim.Native.Nat.{_*_};
+ghost use Prim.Native.Nat.{_≤_, _*_};
 ghost use lib.ListN.{length};
-ghost use Rattle.optimizer.specs.Checks as Checks;
-ghost use Rattle.optimizer.specs.Problem as Problem;
+ghost use Rattle.checks.specs.Checks as Checks;
+ghost use Rattle.checks.specs.Problem as Problem;
+ghost use Rattle.linearization.specs.Linearize as Linearize;
 ghost use Rattle.optimizer.specs.Step as Steps;
-use crate::Rig;
-use crate::correspondences;
+use checks::Rig;
 use linearization::Correspondence;
+use linearization::PointTerms;
 use point_step::PointStep;
 
 // The squared lengths of the point steps and their damping norms, summed
@@ -30,19 +31,19 @@ pub(crate) fn write_steps(
     pose_step: [f64; 5],
     room: &mut [f64],
 ) -> Sums
-    requires { ⌜ Checks.Fits (now points) (now view1) (now view2) (now «inverse_deviations») × (length (now room) ≡ 3 * length (now «inverse_deviations»)) ⌝ }
+    requires { ⌜ (length (now «inverse_deviations») ≤ Checks.maxPoints) × (length (now room) ≡ 3 * length (now «inverse_deviations»)) ⌝ }
     ensures { λ r. ⌜ (r ≡ Steps.sumsTo (Problem.problem (now (points .entry)) (now (view1 .entry)) (now (view2 .entry)) (now («inverse_deviations» .entry)) rig damping) «pose_step» (length (now («inverse_deviations» .entry))))
         × (now (room .exit) ≡ Steps.stepsTo (Problem.problem (now (points .entry)) (now (view1 .entry)) (now (view2 .entry)) (now («inverse_deviations» .entry)) rig damping) «pose_step» (length (now («inverse_deviations» .entry)))) ⌝ }
 {
     let mut squared = 0.0;
     let mut damping_norm = 0.0;
     for i in 0..inverse_deviations.len() {
-        let correspondence = correspondences::correspondence_at(
+        let correspondence = checks::correspondence_at(
             points,
             view1,
             view2,
             inverse_deviations,
-            i,
+            i as u32,
         );
         let moved = point_step(rig, correspondence, damping, pose_step);
         let s = moved.step;
@@ -67,11 +68,17 @@ fn point_step(
 ) -> PointStep
     ensures { λ r. ⌜ r ≡ Steps.pointStepOf rig correspondence damping «pose_step» ⌝ }
 {
-    point_step::step_of_terms(
-        correspondences::point_terms_of(rig, correspondence),
-        damping,
-        pose_step,
-    )
+    point_step::step_of_terms(point_terms_of(rig, correspondence), damping, pose_step)
+}
+
+// What that step needs of the correspondence's block
+fn point_terms_of(rig: Rig, correspondence: Correspondence) -> PointTerms
+    ensures { λ r. ⌜ r ≡ Linearize.pointTerms (Steps.blockOf rig correspondence) ⌝ }
+{
+    let camera1 = rig.camera1;
+    let camera2 = rig.camera2;
+    let pose = rig.pose;
+    linearization::point_terms(camera1, camera2, pose, correspondence)
 }
 
 // The sum begins at −0.

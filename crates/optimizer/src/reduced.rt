@@ -3,12 +3,14 @@
 
 // The reduced system of a whole problem.
 ghost use mathlib.Core.Path.{_≡_};
-ghost use Rattle.optimizer.specs.Checks as Checks;
-ghost use Rattle.optimizer.specs.Problem as Problem;
+ghost use Prim.Native.Nat.{_≤_};
+ghost use lib.ListN.{length};
+ghost use Rattle.checks.specs.Checks as Checks;
+ghost use Rattle.checks.specs.Problem as Problem;
 ghost use Rattle.optimizer.specs.Step as Steps;
-use crate::Rig;
-use crate::checks;
-use crate::correspondences;
+use checks::Rig;
+use linearization::Correspondence;
+use linearization::LocalLinearization;
 use refusal::Refusal;
 use schur::ReducedSystem;
 
@@ -71,22 +73,32 @@ pub(crate) fn damped_system(
     rig: Rig,
     damping: f64,
 ) -> ReducedSystem
-    requires { ⌜ Checks.Fits (now points) (now view1) (now view2) (now «inverse_deviations») ⌝ }
+    requires { ⌜ length (now «inverse_deviations») ≤ Checks.maxPoints ⌝ }
     ensures { λ r. ⌜ r ≡ Steps.reducedSystem (Problem.problem (now (points .entry)) (now (view1 .entry)) (now (view2 .entry)) (now («inverse_deviations» .entry)) rig damping) ⌝ }
 {
     let mut system = ReducedSystem::new();
     for i in 0..inverse_deviations.len() {
-        let correspondence = correspondences::correspondence_at(
+        let correspondence = checks::correspondence_at(
             points,
             view1,
             view2,
             inverse_deviations,
-            i,
+            i as u32,
         );
-        let local = correspondences::block_of(rig, correspondence);
+        let local = block_of(rig, correspondence);
         let added = system.add(local, damping);
         system = added.system;
     }
     let finished = system.finish_damping(damping);
     finished.system
+}
+
+// The block of a correspondence
+fn block_of(rig: Rig, correspondence: Correspondence) -> LocalLinearization
+    ensures { λ r. ⌜ r ≡ Steps.blockOf rig correspondence ⌝ }
+{
+    let camera1 = rig.camera1;
+    let camera2 = rig.camera2;
+    let pose = rig.pose;
+    linearization::linearize_point(camera1, camera2, pose, correspondence)
 }

@@ -5,14 +5,13 @@
 ghost use mathlib.Core.Path.{_≡_};
 ghost use Prim.Native.Nat.{_≤_, _*_};
 ghost use lib.ListN.{length};
-ghost use Rattle.optimizer.specs.Checks as Checks;
-ghost use Rattle.optimizer.specs.Problem as Problem;
+ghost use Rattle.checks.specs.Checks as Checks;
+ghost use Rattle.checks.specs.Problem as Problem;
 ghost use Rattle.optimizer.specs.Step as Steps;
-use crate::Rig;
 use crate::StepResult;
-use crate::checks;
 use crate::point_steps;
 use crate::reduced;
+use checks::Rig;
 use refusal::Refusal;
 use schur::ReducedSystem;
 
@@ -29,7 +28,8 @@ pub fn step<'a>(
     ensures { λ r. ⌜ Steps.Done (Problem.problem (now (points .entry)) (now (view1 .entry)) (now (view2 .entry)) (now («inverse_deviations» .entry)) rig damping)
         (now (room .entry)) r (now (room .exit)) ⌝ }
 {
-    if !checks::belongs(room.len(), 3, inverse_deviations.len()) {
+    // Where the two lengths differ, one of them is not 3n; where they do not, the checks test both.
+    if room.len() != points.len() {
         return not_stepped(Refusal::of(refusal::LENGTHS));
     }
     let refusal = checks::refused(points, view1, view2, inverse_deviations, rig, damping);
@@ -49,7 +49,7 @@ fn solved_step(
     damping: f64,
     room: &mut [f64],
 ) -> StepResult
-    requires { ⌜ Checks.Fits (now points) (now view1) (now view2) (now «inverse_deviations») × (length (now room) ≡ 3 * length (now «inverse_deviations»)) ⌝ }
+    requires { ⌜ (length (now «inverse_deviations») ≤ Checks.maxPoints) × (length (now room) ≡ 3 * length (now «inverse_deviations»)) ⌝ }
     ensures { λ r. ⌜ (r ≡ Steps.solvedStep (Problem.problem (now (points .entry)) (now (view1 .entry)) (now (view2 .entry)) (now («inverse_deviations» .entry)) rig damping))
         × (now (room .exit) ≡ Steps.written (Problem.problem (now (points .entry)) (now (view1 .entry)) (now (view2 .entry)) (now («inverse_deviations» .entry)) rig damping) r (now (room .entry))) ⌝ }
 {

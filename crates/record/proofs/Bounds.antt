@@ -16,10 +16,10 @@ use Rattle.refusal.specs.declared.Refusal.{Refusal}
 use Rattle.refusal.proofs.Scans.{after-none}
 use Rattle.schur.specs.Model.{isValid}
 use Rattle.schur.specs.declared.system.ReducedSystem.{ReducedSystem}
-use Rattle.optimizer.specs.Problem.{Problem, count, blockAt}
-use Rattle.optimizer.specs.Checks as Checks
-use Rattle.optimizer.specs.Step.{reducedSystem}
-use Rattle.optimizer.proofs.Whole.{checked}
+use Rattle.checks.specs.Problem.{Problem, count}
+use Rattle.checks.specs.Checks as Checks
+use Rattle.optimizer.specs.Step.{blockAt, reducedSystem}
+use Rattle.checks.proofs.Passed.{checked}
 use Rattle.optimizer.proofs.PointSteps.{weak-at-most, costs-are-numbers}
 use Rattle.hex.specs.Hex.{digits}
 use Rattle.record_form.specs.Form as Form

@@ -7,8 +7,8 @@ use borrow.Author.Tests.{not-true, not-false}
 use Rattle.refusal.specs.Refused.{none, isNone}
 use Rattle.refusal.specs.declared.Refusal.{Refusal}
 use Rattle.schur.specs.declared.system.ReducedSystem.{ReducedSystem}
-use Rattle.optimizer.specs.Problem.{Problem}
-use Rattle.optimizer.specs.Checks as Checks
+use Rattle.checks.specs.Problem.{Problem}
+use Rattle.checks.specs.Checks as Checks
 use Rattle.optimizer.specs.Step.{reducedSystem, noSystem, reduced}
 use Rattle.optimizer.specs.declared.reduced.Reduced.{Reduced}
 use Rattle.record_form.specs.Form as Form

@@ -16,9 +16,9 @@ use Rattle.number.proofs.Fill.{length-tabulate, filled}
 use Rattle.projection.specs.declared.PinholeCamera.{PinholeCamera}
 use Rattle.linearization.specs.declared.views.Correspondence.{Correspondence}
 use Rattle.linearization.specs.declared.linearize.LocalLinearization.{LocalLinearization}
-use Rattle.optimizer.specs.declared.Rig.{Rig}
-use Rattle.optimizer.specs.Problem.{Problem, problem, correspondenceAt, blockOf, blockAt}
-use Rattle.optimizer.specs.Step.{reduced}
+use Rattle.checks.specs.declared.Rig.{Rig}
+use Rattle.checks.specs.Problem.{Problem, problem, correspondenceAt}
+use Rattle.optimizer.specs.Step.{reduced, blockOf, blockAt}
 use Rattle.optimizer.specs.declared.reduced.Reduced.{Reduced}
 use Rattle.record_form.specs.Form.{camera1At, camera2At, poseAt, basisAt, pointFields}
 use Rattle.record.specs.Run.{numberAt, twoAt, threeAt, numbersAt, cameraAt, rig, damping, column, run, correspondenceOf}

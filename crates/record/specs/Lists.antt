@@ -10,9 +10,9 @@ use Rattle.refusal.specs.Refused.{isNone}
 use Rattle.refusal.specs.First.{orElse}
 use Rattle.refusal.specs.declared.Refusal.{Refusal}
 use Rattle.schur.specs.declared.system.ReducedSystem.{ReducedSystem}
-use Rattle.optimizer.specs.Problem.{Problem, blockAt}
-use Rattle.optimizer.specs.Checks as Checks
-use Rattle.optimizer.specs.Step.{reducedSystem}
+use Rattle.checks.specs.Problem.{Problem}
+use Rattle.checks.specs.Checks as Checks
+use Rattle.optimizer.specs.Step.{blockAt, reducedSystem}
 use Rattle.record_form.specs.Form as Form
 use Rattle.record.specs.Run.{run, damping}
 use Rattle.text.specs.Text.{pasted}

@@ -6,8 +6,8 @@ use lib.Ieee.{Float, binary64, ofBits}
 use Rattle.number.specs.Vectors.{tabulate}
 use Rattle.projection.specs.declared.PinholeCamera.{PinholeCamera}
 use Rattle.linearization.specs.declared.views.Correspondence.{Correspondence}
-use Rattle.optimizer.specs.declared.Rig.{Rig}
-use Rattle.optimizer.specs.Problem.{Problem, problem}
+use Rattle.checks.specs.declared.Rig.{Rig}
+use Rattle.checks.specs.Problem.{Problem, problem}
 use Rattle.record_form.specs.Form.{byte, camera1At, camera2At, poseAt, basisAt, dampingAt, pointsAt, pointFields, Formed}
 
 -- four bytes, then eight, low byte first

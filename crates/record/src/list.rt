@@ -8,7 +8,7 @@ ghost use Rattle.record.specs.Lists as Lists;
 ghost use Rattle.record.specs.Run as Run;
 ghost use Rattle.text.specs.Text as Text;
 use crate::run;
-use optimizer::Rig;
+use checks::Rig;
 use schur::ReducedSystem;
 
 // No list has more bytes.

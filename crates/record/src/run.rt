@@ -3,13 +3,13 @@ ghost use mathlib.Core.Path.{_≡_};
 ghost use Prim.Native.Nat.{_≤_, _<_, _*_, _+_, _/_, _%_};
 ghost use lib.ListN.{length, take};
 ghost use Rattle.number.specs.Vectors as Vectors;
-ghost use Rattle.optimizer.specs.Problem as Problem;
+ghost use Rattle.optimizer.specs.Step as Steps;
 ghost use Rattle.record_form.specs.Form as Form;
 ghost use Rattle.record.specs.Run as Run;
+use checks::Rig;
 use linearization::Correspondence;
 use linearization::LocalLinearization;
 use linearization::Pose;
-use optimizer::Rig;
 use projection::PinholeCamera;
 
 // The most points of a record
@@ -139,7 +139,7 @@ fn correspondence_at(record: &[u8], i: usize) -> Correspondence
 // The block of a point
 pub(crate) fn block_at(record: &[u8], rig: Rig, i: usize) -> LocalLinearization
     requires { ⌜ (i < Form.pointFields (now «record»)) × Form.Formed (now «record») ⌝ }
-    ensures { λ r. ⌜ r ≡ Problem.blockOf rig (Run.correspondenceOf (now («record» .entry)) i) ⌝ }
+    ensures { λ r. ⌜ r ≡ Steps.blockOf rig (Run.correspondenceOf (now («record» .entry)) i) ⌝ }
 {
     let camera1 = rig.camera1;
     let camera2 = rig.camera2;

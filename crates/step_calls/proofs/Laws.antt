@@ -9,9 +9,9 @@ use lib.ListN.{length, set}
 use lib.Ieee.{Float}
 use Rattle.refusal.specs.declared.Refusal.{Refusal}
 use Rattle.schur.specs.declared.system.ReducedSystem.{ReducedSystem}
-use Rattle.optimizer.specs.Problem.{Problem}
+use Rattle.checks.specs.Problem.{Problem}
 use Rattle.optimizer.specs.Step as Step
-use Rattle.optimizer.specs.declared.Rig.{Rig}
+use Rattle.checks.specs.declared.Rig.{Rig}
 use Rattle.optimizer.specs.declared.StepResult.{StepResult}
 use Rattle.flat.specs.Flat.{rig, systemNumbers, systemCounts, stepNumbers, stepCount}
 use Rattle.flat.specs.Answers.{code, lengthsCode, stored, long}

@@ -10,7 +10,7 @@ use Rattle.refusal.specs.declared.Refusal.{Refusal}
 use Rattle.schur.specs.System as System
 use Rattle.schur.specs.Model as Model
 use Rattle.schur.specs.declared.system.ReducedSystem.{ReducedSystem}
-use Rattle.optimizer.specs.Problem.{Problem}
+use Rattle.checks.specs.Problem.{Problem}
 use Rattle.pose_step.specs.PoseStep as PoseStep
 use Rattle.optimizer.specs.Step as Step
 use Rattle.flat.specs.Flat.{block, system, systemNumbers, systemCounts, flag, stepNumbers, stepCount}

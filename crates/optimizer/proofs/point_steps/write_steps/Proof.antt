@@ -2,7 +2,7 @@
 use lib.ListN.{length, set}
 use lib.Seq.{lt-length-set}
 use Rattle.point_step.specs.declared.PointStep.{PointStep}
-use Rattle.optimizer.specs.Problem.{problem}
+use Rattle.checks.specs.Problem.{problem}
 use Rattle.optimizer.specs.Step.{sumsTo}
 use Rattle.optimizer.proofs.Passes.{stepped-at, Filled, room-none, room-length, room-next, room-full, sums-none, squared-next, norm-next, both-sums}
 use Rattle.optimizer.specs.declared.point_steps.Sums.{Sums}
@@ -76,6 +76,7 @@ write-steps-spec =
     Inv-loop
     μ-loop
     loop-holds
+    (λ c. omega arith)
     (λ c κs. search needs)
     (λ c κs. search needs)
     (λ c. search needs)

@@ -1,6 +1,6 @@
 -- `optimizer::reduced::damped_system` meets its contract. Assumes nothing.
 use lib.ListN.{length}
-use Rattle.optimizer.specs.Problem.{problem}
+use Rattle.checks.specs.Problem.{problem}
 use Rattle.optimizer.specs.Step.{systemTo}
 use Rattle.optimizer.proofs.Passes.{system-none, system-next, system-all}
 use mathlib.Core.Path.{_≡_, refl}
@@ -22,7 +22,7 @@ loop-holds c = (omega arith, refl, system-none _ _ (c .new .ensures))
 below : tie.Need-add-i Inv-loop μ-loop
 below c =
     let l = c .before .before .before .before .before in
-    omega (arith, c .before .before .before .before .loop-test, l .loop .inv .1, l .before .before .before .before .before .before .pre .3)
+    omega (arith, c .before .before .before .before .loop-test, l .loop .inv .1, l .before .before .before .before .before .before .pre)
 
 loop-again : tie.Need-loop-again Inv-loop μ-loop
 loop-again c =
@@ -43,6 +43,7 @@ damped-system-spec =
     μ-loop
     (λ c κs. search needs)
     loop-holds
+    (λ c. omega arith)
     (λ c κs. search needs)
     (λ c κs. search needs)
     (λ c κs. search needs)

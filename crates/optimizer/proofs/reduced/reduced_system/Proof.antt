@@ -1,6 +1,7 @@
 -- `optimizer::reduced::reduced_system` meets its contract. Assumes nothing.
-use Rattle.optimizer.specs.Problem.{problem}
-use Rattle.optimizer.proofs.Whole.{checked, passed, not-reduced, reduces}
+use Rattle.checks.specs.Problem.{problem}
+use Rattle.checks.proofs.Passed.{checked}
+use Rattle.optimizer.proofs.Whole.{passed, not-reduced, reduces}
 use borrow.Author.Needs.{needs}
 use Rattle.optimizer.proofs.reduced.reduced_system.Statement.{statement}
 use Rattle.optimizer.proofs.reduced.reduced_system.Tie as tie
@@ -22,7 +23,7 @@ requires : tie.Need-damped-system-requires
 requires c κs =
     let k = c .before in
     let a = k .before .before .before .before .before .before .args in
-    checked (problem (a .points .now) (a .view1 .now) (a .view2 .now) (a .inverse-deviations .now) (a .rig) (a .damping)) (passed _ _ _ (k .before .refused .ensures) (k .is-none .ensures) (c .if1 .left)) .0
+    checked (problem (a .points .now) (a .view1 .now) (a .view2 .now) (a .inverse-deviations .now) (a .rig) (a .damping)) (passed _ _ _ (k .before .refused .ensures) (k .is-none .ensures) (c .if1 .left)) .0 .3
 
 pub reduced-system-spec : {M : Type 1} → statement M
 reduced-system-spec =

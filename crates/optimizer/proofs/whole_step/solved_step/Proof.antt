@@ -1,6 +1,6 @@
 -- `optimizer::whole_step::solved_step` meets its contract. Assumes nothing.
 use Rattle.optimizer.proofs.Whole.{not-valid, not-solved, solves}
-use Rattle.optimizer.specs.Problem.{problem}
+use Rattle.checks.specs.Problem.{problem}
 use borrow.Author.Needs.{needs}
 use Rattle.optimizer.proofs.whole_step.solved_step.Statement.{statement}
 use Rattle.optimizer.proofs.whole_step.solved_step.Tie as tie
@@ -48,6 +48,6 @@ solved-step-spec =
     returns-2
     (λ c κs. search needs)
     (λ c κs. search needs)
-    (λ c κs. c .before .before .before .before .before .before .before .before .before .before .before .before .before .before .before .before .before .before .before .before .pre .0 .3)
+    (λ c κs. c .before .before .before .before .before .before .before .before .before .before .before .before .before .before .before .before .before .before .before .before .pre .0)
     same-length
     returns-3)

@@ -4,7 +4,7 @@ use lib.ListN.{length}
 use Rattle.linearization.specs.Linearize as Linearize
 use Rattle.linearization.specs.declared.views.Correspondence.{Correspondence}
 use Rattle.linearization.specs.declared.linearize.LocalLinearization.{LocalLinearization}
-use Rattle.optimizer.specs.declared.Rig.{Rig}
+use Rattle.checks.specs.declared.Rig.{Rig}
 use Rattle.flat.specs.Flat.{rig, blockNumbers}
 use Rattle.pixel_step.specs.Interface.{linearizePoint}
 use Rattle.flat.proofs.Laws.{too-short, answers, three-fit}

@@ -1,7 +1,7 @@
 -- `record::run::block_at` meets its contract. Assumes nothing.
 use mathlib.Core.Path.{ap, _∙_}
 use Rattle.linearization.specs.declared.views.Correspondence.{Correspondence}
-use Rattle.optimizer.specs.Problem.{blockOf}
+use Rattle.optimizer.specs.Step.{blockOf}
 use borrow.Author.Needs.{needs}
 use Rattle.record.proofs.run.block_at.Statement.{statement}
 use Rattle.record.proofs.run.block_at.Tie as tie

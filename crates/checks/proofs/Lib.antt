@@ -1,0 +1,3 @@
+-- Laws of the checks.
+mod Parts
+pub mod Passed

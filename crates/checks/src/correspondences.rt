@@ -1,0 +1,78 @@
+// SPDX-FileCopyrightText: 2026 Pierre Moulon and OpenMVG Rust contributors
+// SPDX-License-Identifier: MIT OR Apache-2.0
+
+// One correspondence of the lent lists: its point, what each view saw of it, and how a view projects it. Beyond the end
+// of a list stands a NaN, as in the definitions.
+ghost use mathlib.Core.Path.{_≡_};
+ghost use Prim.Native.Nat.{_<_, _*_, _+_};
+ghost use lib.ListN.{length};
+ghost use Rattle.checks.specs.Problem as Problem;
+use crate::Rig;
+use linearization::Correspondence;
+use projection::Projected;
+
+pub(crate) fn point_at(points: &[f64], i: u32) -> [f64; 3]
+    ensures { λ r. ⌜ r ≡ Problem.triple (now (points .entry)) i ⌝ }
+{
+    let at = 3 * (i as usize);
+    [
+        number::entry(points, at),
+        number::entry(points, at + 1),
+        number::entry(points, at + 2),
+    ]
+}
+
+pub(crate) fn pair_at(view: &[f64], i: u32) -> [f64; 2]
+    ensures { λ r. ⌜ r ≡ Problem.pair (now (view .entry)) i ⌝ }
+{
+    let at = 2 * (i as usize);
+    [number::entry(view, at), number::entry(view, at + 1)]
+}
+
+// The part of view 1 or 2 that holds the two numbers of a point
+pub(crate) fn observation<'a>(view1: &'a [f64], view2: &'a [f64], view: u32, i: u32) -> &'a [f64]
+    requires { ⌜ (2 * i + 1 < length (now view1)) × (2 * i + 1 < length (now view2)) ⌝ }
+    ensures { λ r. ⌜ now r ≡ Problem.observation (now (view1 .entry)) (now (view2 .entry)) view i ⌝ }
+{
+    let at = 2 * (i as usize);
+    if view == 1 {
+        &view1[at..at + 2]
+    } else {
+        &view2[at..at + 2]
+    }
+}
+
+// The correspondence at an index, which may lie beyond the end
+pub fn correspondence_at(
+    points: &[f64],
+    view1: &[f64],
+    view2: &[f64],
+    inverse_deviations: &[f64],
+    i: u32,
+) -> Correspondence
+    ensures { λ r. ⌜ r ≡ Problem.correspondenceAt (now (points .entry)) (now (view1 .entry)) (now (view2 .entry)) (now («inverse_deviations» .entry)) i ⌝ }
+{
+    Correspondence {
+        point: point_at(points, i),
+        view1: pair_at(view1, i),
+        view2: pair_at(view2, i),
+        inverse_deviation: number::entry(inverse_deviations, i as usize),
+    }
+}
+
+// A point as view 1 or 2 sees it
+pub(crate) fn project(rig: Rig, view: u32, observation: [f64; 2], point: [f64; 3]) -> Projected
+    ensures { λ r. ⌜ r ≡ Problem.project rig view observation point ⌝ }
+{
+    let pose = rig.pose;
+    let camera1 = rig.camera1;
+    let camera2 = rig.camera2;
+    let rotation = pose.rotation;
+    let translation = pose.translation;
+    if view == 1 {
+        projection::pixel_projection(camera1, observation, point)
+    } else {
+        let moved = jacobians::camera_point(jacobians::rotate(rotation, point), translation);
+        projection::pixel_projection(camera2, observation, moved)
+    }
+}
