@@ -15,6 +15,9 @@ pub(crate) fn point_at(points: &[f64], i: u32) -> [f64; 3]
     ensures { λ r. ⌜ r ≡ Problem.triple (now (points .entry)) i ⌝ }
 {
     let at = 3 * (i as usize);
+    if at + 2 < points.len() {
+        return [points[at], points[at + 1], points[at + 2]];
+    }
     [
         number::entry(points, at),
         number::entry(points, at + 1),
@@ -26,6 +29,9 @@ pub(crate) fn pair_at(view: &[f64], i: u32) -> [f64; 2]
     ensures { λ r. ⌜ r ≡ Problem.pair (now (view .entry)) i ⌝ }
 {
     let at = 2 * (i as usize);
+    if at + 1 < view.len() {
+        return [view[at], view[at + 1]];
+    }
     [number::entry(view, at), number::entry(view, at + 1)]
 }
 

@@ -17,6 +17,7 @@ use Rattle.refusal.specs.Refused.{of, none, isRowNone, isNone}
 use Rattle.refusal.specs.declared.Refusal.{Refusal}
 use Rattle.point_block.specs.declared.DampingDiagonal.{DampingDiagonal}
 use Rattle.point_block.specs.declared.DampedMatrix.{DampedMatrix}
+use Rattle.point_block.specs.declared.Scale.{Scale}
 use Rattle.point_block.specs.declared.Cholesky.{Cholesky}
 use Rattle.point_block.specs.declared.PointBlockFactor.{PointBlockFactor}
 use Rattle.point_block.specs.declared.LoneFactor.{LoneFactor}
@@ -80,7 +81,7 @@ module _ (m : List Float) (damping : Float) (d : DampingDiagonal) (b : Bool) (e 
   unfolding dampedMatrix
   damped-some x p q = rw (← e, ← t, not-false b p, q) refl
 
-module _ (m scale : List Float) (c : Cholesky) (b : Bool) (e : scale ≡ scaleOf m) (f : c ≡ choleskyOf (scaledOf m scale)) (t : b ≡ goodPivots (c .pivots)) where
+module _ (m : List Float) (scale : Scale) (c : Cholesky) (b : Bool) (e : scale ≡ scaleOf m) (f : c ≡ choleskyOf (scaledOf m scale)) (t : b ≡ goodPivots c) where
   pub factored-none : (r : PointBlockFactor) → not b ≡ true → r ≡ notFactored → r ≡ factorDamped m
   unfolding factorDamped
   factored-none r p q = rw (← e, ← f, ← t, not-true b p) q

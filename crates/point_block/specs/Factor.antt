@@ -8,58 +8,60 @@ use Rattle.root.specs.Root.{sqrt}
 use Rattle.number.specs.Vectors.{_!_}
 use Rattle.refusal.specs.Rows as Rows
 use Rattle.refusal.specs.Refused.{of, none}
+use Rattle.point_block.specs.declared.Scale.{Scale}
+use Rattle.point_block.specs.declared.Lower.{Lower}
 use Rattle.point_block.specs.declared.Cholesky.{Cholesky}
 use Rattle.point_block.specs.declared.PointBlockFactor.{PointBlockFactor}
 use Rattle.point_block.specs.Damping.{floored}
 
 -- the Jacobi scale: the roots of the diagonal entries, none below 64ε of the largest
-unfoldable pub scaleOf : List Float → List Float
+unfoldable pub scaleOf : List Float → Scale
 scaleOf m =
     let d = floored m in
-    sqrt (d ! 0) ∷ sqrt (d ! 1) ∷ sqrt (d ! 2) ∷ []
+    record { s0 = sqrt (d ! 0); s1 = sqrt (d ! 1); s2 = sqrt (d ! 2) }
 
 -- the lower triangle of the scaled matrix, made symmetric
-abbrev pub scaledOf : List Float → List Float → List Float
-scaledOf m s =
-    half ⊗ (m ! 0 ⊕ m ! 0) ⊘ (s ! 0 ⊗ s ! 0)
-    ∷ half ⊗ (m ! 3 ⊕ m ! 1) ⊘ (s ! 1 ⊗ s ! 0)
-    ∷ half ⊗ (m ! 4 ⊕ m ! 4) ⊘ (s ! 1 ⊗ s ! 1)
-    ∷ half ⊗ (m ! 6 ⊕ m ! 2) ⊘ (s ! 2 ⊗ s ! 0)
-    ∷ half ⊗ (m ! 7 ⊕ m ! 5) ⊘ (s ! 2 ⊗ s ! 1)
-    ∷ half ⊗ (m ! 8 ⊕ m ! 8) ⊘ (s ! 2 ⊗ s ! 2)
-    ∷ []
+abbrev pub scaledOf : List Float → Scale → Lower
+scaledOf m s = record {
+  e00 = half ⊗ (m ! 0 ⊕ m ! 0) ⊘ (s .s0 ⊗ s .s0);
+  e10 = half ⊗ (m ! 3 ⊕ m ! 1) ⊘ (s .s1 ⊗ s .s0);
+  e11 = half ⊗ (m ! 4 ⊕ m ! 4) ⊘ (s .s1 ⊗ s .s1);
+  e20 = half ⊗ (m ! 6 ⊕ m ! 2) ⊘ (s .s2 ⊗ s .s0);
+  e21 = half ⊗ (m ! 7 ⊕ m ! 5) ⊘ (s .s2 ⊗ s .s1);
+  e22 = half ⊗ (m ! 8 ⊕ m ! 8) ⊘ (s .s2 ⊗ s .s2);
+}
 
--- the pivots before their roots are taken, and the lower triangle, packed
-unfoldable pub choleskyOf : List Float → Cholesky
+-- the pivots before their roots are taken, and the lower triangle
+unfoldable pub choleskyOf : Lower → Cholesky
 choleskyOf a =
-    let l₀₀ = sqrt (a ! 0) in
-    let l₁₀ = a ! 1 ⊘ l₀₀ in
-    let p₁ = a ! 2 ⊖ l₁₀ ⊗ l₁₀ in
+    let l₀₀ = sqrt (a .e00) in
+    let l₁₀ = a .e10 ⊘ l₀₀ in
+    let p₁ = a .e11 ⊖ l₁₀ ⊗ l₁₀ in
     let l₁₁ = sqrt p₁ in
-    let l₂₀ = a ! 3 ⊘ l₀₀ in
-    let l₂₁ = (a ! 4 ⊖ l₂₀ ⊗ l₁₀) ⊘ l₁₁ in
-    let p₂ = a ! 5 ⊖ l₂₀ ⊗ l₂₀ ⊖ l₂₁ ⊗ l₂₁ in
-    record { pivots = a ! 0 ∷ p₁ ∷ p₂ ∷ []; lower = l₀₀ ∷ l₁₀ ∷ l₁₁ ∷ l₂₀ ∷ l₂₁ ∷ sqrt p₂ ∷ [] }
+    let l₂₀ = a .e20 ⊘ l₀₀ in
+    let l₂₁ = (a .e21 ⊖ l₂₀ ⊗ l₁₀) ⊘ l₁₁ in
+    let p₂ = a .e22 ⊖ l₂₀ ⊗ l₂₀ ⊖ l₂₁ ⊗ l₂₁ in
+    record { p0 = a .e00; p1 = p₁; p2 = p₂; lower = record { e00 = l₀₀; e10 = l₁₀; e11 = l₁₁; e20 = l₂₀; e21 = l₂₁; e22 = sqrt p₂ } }
 
 -- "Each scaled pivot must be finite and > 64ε"
 abbrev pub goodPivot : Float → Bool
 goodPivot p = isFinite p && lt epsilon64 p
 
-unfoldable pub goodPivots : List Float → Bool
-goodPivots p = goodPivot (p ! 0) && goodPivot (p ! 1) && goodPivot (p ! 2)
+unfoldable pub goodPivots : Cholesky → Bool
+goodPivots c = goodPivot (c .p0) && goodPivot (c .p1) && goodPivot (c .p2)
 
 -- M is the inverse of the lower triangle; the scaled inverse is Mᵀ M, and the block's has the scale taken out on both sides
-unfoldable pub inverseOf : List Float → List Float → List Float
+unfoldable pub inverseOf : Lower → Scale → List Float
 inverseOf l s =
-    let m₀₀ = recip (l ! 0) in
-    let m₁₁ = recip (l ! 2) in
-    let m₂₂ = recip (l ! 5) in
-    let m₁₀ = neg (l ! 1) ⊗ m₀₀ ⊗ m₁₁ in
-    let m₂₁ = neg (l ! 4) ⊗ m₁₁ ⊗ m₂₂ in
-    let m₂₀ = neg (l ! 3 ⊗ m₀₀ ⊕ l ! 4 ⊗ m₁₀) ⊗ m₂₂ in
-    let d₀ = recip (s ! 0) in
-    let d₁ = recip (s ! 1) in
-    let d₂ = recip (s ! 2) in
+    let m₀₀ = recip (l .e00) in
+    let m₁₁ = recip (l .e11) in
+    let m₂₂ = recip (l .e22) in
+    let m₁₀ = neg (l .e10) ⊗ m₀₀ ⊗ m₁₁ in
+    let m₂₁ = neg (l .e21) ⊗ m₁₁ ⊗ m₂₂ in
+    let m₂₀ = neg (l .e20 ⊗ m₀₀ ⊕ l .e21 ⊗ m₁₀) ⊗ m₂₂ in
+    let d₀ = recip (s .s0) in
+    let d₁ = recip (s .s1) in
+    let d₂ = recip (s .s2) in
     (m₀₀ ⊗ m₀₀ ⊕ m₁₀ ⊗ m₁₀ ⊕ m₂₀ ⊗ m₂₀) ⊗ (d₀ ⊗ d₀)
     ∷ (m₁₁ ⊗ m₁₀ ⊕ m₂₁ ⊗ m₂₀) ⊗ (d₁ ⊗ d₀)
     ∷ (m₁₁ ⊗ m₁₁ ⊕ m₂₁ ⊗ m₂₁) ⊗ (d₁ ⊗ d₁)
@@ -76,7 +78,7 @@ unfoldable pub factorDamped : List Float → PointBlockFactor
 factorDamped m =
     let s = scaleOf m in
     let c = choleskyOf (scaledOf m s) in
-    cond (goodPivots (c .pivots)) (record { inverse = inverseOf (c .lower) s; refusal = none }) notFactored
+    cond (goodPivots c) (record { inverse = inverseOf (c .lower) s; refusal = none }) notFactored
 
 -- `solve`: the six stored numbers times a vector
 abbrev pub solve : List Float → List Float → List Float

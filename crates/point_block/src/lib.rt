@@ -21,10 +21,29 @@ pub struct DampedMatrix {
     pub refusal: Refusal,
 }
 
-// The pivots before their roots, and the lower triangle: 00, 10, 11, 20, 21, 22
+// The Jacobi scale
+struct Scale {
+    s0: f64,
+    s1: f64,
+    s2: f64,
+}
+
+// A lower triangle, by row and column
+struct Lower {
+    e00: f64,
+    e10: f64,
+    e11: f64,
+    e20: f64,
+    e21: f64,
+    e22: f64,
+}
+
+// The pivots before their roots, and the lower triangle
 struct Cholesky {
-    pivots: [f64; 3],
-    lower: [f64; 6],
+    p0: f64,
+    p1: f64,
+    p2: f64,
+    lower: Lower,
 }
 
 // The inverse of a symmetric 3 by 3 block, packed lower triangle: 00, 10, 11, 20, 21, 22
@@ -121,8 +140,7 @@ impl PointBlockFactor {
     {
         let scale = scale_of(damped);
         let cholesky = cholesky_of(scaled_of(damped, scale));
-        let pivots = cholesky.pivots;
-        if !good_pivots(pivots) {
+        if !good_pivots(cholesky) {
             return not_factored();
         }
         let lower = cholesky.lower;
@@ -226,49 +244,59 @@ fn added_diagonal(m: [f64; 9], damping: f64, d: [f64; 3]) -> [f64; 9]
     ]
 }
 
-// The Jacobi scale: the roots of the floored diagonal.
-fn scale_of(m: [f64; 9]) -> [f64; 3]
+// The roots of the floored diagonal
+fn scale_of(m: [f64; 9]) -> Scale
     ensures { λ r. ⌜ r ≡ Factor.scaleOf m ⌝ }
 {
     let d = floored(m, largest_diagonal(m));
-    [root::sqrt(d[0]), root::sqrt(d[1]), root::sqrt(d[2])]
+    Scale {
+        s0: root::sqrt(d[0]),
+        s1: root::sqrt(d[1]),
+        s2: root::sqrt(d[2]),
+    }
 }
 
 // The lower triangle of the scaled matrix, made symmetric
-fn scaled_of(m: [f64; 9], s: [f64; 3]) -> [f64; 6]
+fn scaled_of(m: [f64; 9], s: Scale) -> Lower
     ensures { λ r. ⌜ r ≡ Factor.scaledOf m s ⌝ }
 {
     let m00 = m[0];
     let m11 = m[4];
     let m22 = m[8];
-    let s0 = s[0];
-    let s1 = s[1];
-    let s2 = s[2];
-    [
-        0.5 * (m00 + m00) / (s0 * s0),
-        0.5 * (m[3] + m[1]) / (s1 * s0),
-        0.5 * (m11 + m11) / (s1 * s1),
-        0.5 * (m[6] + m[2]) / (s2 * s0),
-        0.5 * (m[7] + m[5]) / (s2 * s1),
-        0.5 * (m22 + m22) / (s2 * s2),
-    ]
+    Lower {
+        e00: 0.5 * (m00 + m00) / (s.s0 * s.s0),
+        e10: 0.5 * (m[3] + m[1]) / (s.s1 * s.s0),
+        e11: 0.5 * (m11 + m11) / (s.s1 * s.s1),
+        e20: 0.5 * (m[6] + m[2]) / (s.s2 * s.s0),
+        e21: 0.5 * (m[7] + m[5]) / (s.s2 * s.s1),
+        e22: 0.5 * (m22 + m22) / (s.s2 * s.s2),
+    }
 }
 
-fn cholesky_of(a: [f64; 6]) -> Cholesky
+fn cholesky_of(a: Lower) -> Cholesky
     ensures { λ r. ⌜ r ≡ Factor.choleskyOf a ⌝ }
 {
-    let p0 = a[0];
+    let p0 = a.e00;
     let l00 = root::sqrt(p0);
-    let l10 = a[1] / l00;
-    let p1 = a[2] - l10 * l10;
+    let l10 = a.e10 / l00;
+    let p1 = a.e11 - l10 * l10;
     let l11 = root::sqrt(p1);
-    let l20 = a[3] / l00;
-    let l21 = (a[4] - l20 * l10) / l11;
-    let p2 = a[5] - l20 * l20 - l21 * l21;
+    let l20 = a.e20 / l00;
+    let l21 = (a.e21 - l20 * l10) / l11;
+    let p2 = a.e22 - l20 * l20 - l21 * l21;
     let l22 = root::sqrt(p2);
     Cholesky {
-        pivots: [p0, p1, p2],
-        lower: [l00, l10, l11, l20, l21, l22],
+        p0,
+        p1,
+        p2,
+        lower: Lower {
+            e00: l00,
+            e10: l10,
+            e11: l11,
+            e20: l20,
+            e21: l21,
+            e22: l22,
+        },
     }
 }
 
@@ -278,26 +306,26 @@ fn good_pivot(p: f64) -> bool
     number::is_finite(p) & (number::EPSILON64 < p)
 }
 
-fn good_pivots(p: [f64; 3]) -> bool
-    ensures { λ r. ⌜ r ≡ Factor.goodPivots p ⌝ }
+fn good_pivots(c: Cholesky) -> bool
+    ensures { λ r. ⌜ r ≡ Factor.goodPivots c ⌝ }
 {
-    good_pivot(p[0]) & good_pivot(p[1]) & good_pivot(p[2])
+    good_pivot(c.p0) & good_pivot(c.p1) & good_pivot(c.p2)
 }
 
 // The block's inverse from its lower triangle and its scale: M is the triangle's inverse, the scaled
 // inverse is Mᵀ M, and the scale is taken out on both sides.
-fn inverse_of(l: [f64; 6], s: [f64; 3]) -> [f64; 6]
+fn inverse_of(l: Lower, s: Scale) -> [f64; 6]
     ensures { λ r. ⌜ r ≡ Factor.inverseOf l s ⌝ }
 {
-    let m00 = 1.0 / l[0];
-    let m11 = 1.0 / l[2];
-    let m22 = 1.0 / l[5];
-    let m10 = -l[1] * m00 * m11;
-    let m21 = -l[4] * m11 * m22;
-    let m20 = -(l[3] * m00 + l[4] * m10) * m22;
-    let d0 = 1.0 / s[0];
-    let d1 = 1.0 / s[1];
-    let d2 = 1.0 / s[2];
+    let m00 = 1.0 / l.e00;
+    let m11 = 1.0 / l.e11;
+    let m22 = 1.0 / l.e22;
+    let m10 = -l.e10 * m00 * m11;
+    let m21 = -l.e21 * m11 * m22;
+    let m20 = -(l.e20 * m00 + l.e21 * m10) * m22;
+    let d0 = 1.0 / s.s0;
+    let d1 = 1.0 / s.s1;
+    let d2 = 1.0 / s.s2;
     [
         (m00 * m00 + m10 * m10 + m20 * m20) * (d0 * d0),
         (m11 * m10 + m21 * m20) * (d1 * d0),

@@ -1,26 +1,21 @@
 -- `point_block::cholesky_of` meets its contract. Assumes nothing.
 use mathlib.Core.Path.{refl}
 use Rattle.point_block.specs.Factor.{choleskyOf}
-use native.Mathlib.Omega.{arith}
 use borrow.Author.Needs.{needs}
 use Rattle.point_block.proofs.cholesky_of.Statement.{statement}
 use Rattle.point_block.proofs.cholesky_of.Tie as tie
 
 returns : tie.Need-returns
 unfolding choleskyOf
-returns c = rw (c .sqrt3 .ensures, c .before .sqrt2 .ensures, c .before .before .sqrt .ensures) refl
+returns c =
+    let second = c .before .before .before .before in
+    rw (c .sqrt3 .ensures, second .sqrt2 .ensures, second .before .before .before .sqrt .ensures) refl
 
 pub cholesky-of-spec : {M : Type 1} → statement M
 cholesky-of-spec =
     tie.close
     (tie.spec
-    (λ c. omega arith)
     (λ c κs. search needs)
-    (λ c. omega arith)
-    (λ c. omega arith)
     (λ c κs. search needs)
-    (λ c. omega arith)
-    (λ c. omega arith)
-    (λ c. omega arith)
     (λ c κs. search needs)
     returns)

@@ -1,7 +1,6 @@
 -- `point_block::inverse_of` meets its contract. Assumes nothing.
 use mathlib.Core.Path.{refl}
 use Rattle.point_block.specs.Factor.{inverseOf}
-use native.Mathlib.Omega.{arith}
 use Rattle.point_block.proofs.inverse_of.Statement.{statement}
 use Rattle.point_block.proofs.inverse_of.Tie as tie
 
@@ -13,14 +12,4 @@ pub inverse-of-spec : {M : Type 1} → statement M
 inverse-of-spec =
     tie.close
     (tie.spec
-    (λ c. omega arith)
-    (λ c. omega arith)
-    (λ c. omega arith)
-    (λ c. omega arith)
-    (λ c. omega arith)
-    (λ c. omega arith)
-    (λ c. omega arith)
-    (λ c. omega arith)
-    (λ c. omega arith)
-    (λ c. omega arith)
     returns)

@@ -9,14 +9,14 @@ use Rattle.point_block.proofs.PointBlockFactor.factor_damped.Tie as tie
 returns : tie.Need-returns
 returns c =
     let t = c .before .before in
-    let k = t .before .before in
+    let k = t .before in
     factored-none _ _ _ _ (k .before .before .scale-of .ensures) (k .cholesky-of .ensures ∙ ap choleskyOf (k .before .scaled-of .ensures)) (t .good-pivots .ensures) _ (c .before .if1 .taken)
     (c .not-factored .ensures)
 
 returns-2 : tie.Need-returns-2
 returns-2 c =
     let t = c .before .before .before .before in
-    let k = t .before .before in
+    let k = t .before in
     factored-some _ _ _ _ (k .before .before .scale-of .ensures) (k .cholesky-of .ensures ∙ ap choleskyOf (k .before .scaled-of .ensures)) (t .good-pivots .ensures) _ _
     (c .before .before .before .if1 .left)
     (c .before .inverse-of .ensures)
