@@ -9,14 +9,10 @@ use lib.Ieee.{Float}
 use Rattle.number.specs.Vectors.{_!_, tabulate}
 use Rattle.refusal.specs.Refused.{none}
 use Rattle.projection.specs.declared.PinholeCamera.{PinholeCamera}
-use Rattle.projection.specs.declared.Projected.{Projected}
-use Rattle.point_block.specs.declared.LoneFactor.{LoneFactor}
 use Rattle.linearization.specs.declared.views.Correspondence.{Correspondence}
 use Rattle.linearization.specs.declared.linearize.LocalLinearization.{LocalLinearization}
 use Rattle.schur.specs.declared.system.ReducedSystem.{ReducedSystem}
-use Rattle.point_step.specs.declared.PointStep.{PointStep}
 use Rattle.checks.specs.declared.Rig.{Rig}
-use Rattle.optimizer.specs.declared.StepResult.{StepResult}
 
 -- n numbers from a place on; beyond the end they are NaN
 unfoldable pub part : ℕ → ℕ → List Float → List Float
@@ -82,27 +78,3 @@ flag b = cond b 1 0
 
 unfoldable pub systemCounts : ReducedSystem → List ℕ
 systemCounts s = s .«weak_point_count» ∷ s .«block_count» ∷ flag (s .valid) ∷ []
-
--- what a whole step gives, the room apart: twelve numbers and the weak count
-abbrev pub stepNumbers : StepResult → List Float
-stepNumbers s =
-    let p = s .«pose_step» in
-    p ! 0 ∷ p ! 1 ∷ p ! 2 ∷ p ! 3 ∷ p ! 4 ∷ s .cost ∷ s .«squared_residual» ∷ s .«gradient_norm» ∷ s .«minimum_point_rcond» ∷ s .«point_step_rms» ∷ s .«point_damping_norm» ∷ s .«predicted_reduction» ∷ []
-
-abbrev pub stepCount : StepResult → List ℕ
-stepCount s = s .«weak_point_count» ∷ []
-
--- residual and Jacobian; inverse and rcond; step and damping norm
-abbrev pub projectionNumbers : Projected → List Float
-projectionNumbers p =
-    let r = p .residual in
-    let j = p .jacobian in
-    r ! 0 ∷ r ! 1 ∷ j ! 0 ∷ j ! 1 ∷ j ! 2 ∷ j ! 3 ∷ j ! 4 ∷ j ! 5 ∷ []
-
-abbrev pub factorNumbers : LoneFactor → List Float
-factorNumbers f =
-    let i = f .inverse in
-    i ! 0 ∷ i ! 1 ∷ i ! 2 ∷ i ! 3 ∷ i ! 4 ∷ i ! 5 ∷ f .rcond ∷ []
-
-abbrev pub pointStepNumbers : PointStep → List Float
-pointStepNumbers p = p .step ! 0 ∷ p .step ! 1 ∷ p .step ! 2 ∷ p .«damping_norm» ∷ []

@@ -6,11 +6,7 @@ use checks::Rig;
 use linearization::Correspondence;
 use linearization::LocalLinearization;
 use linearization::Pose;
-use optimizer::StepResult;
-use point_block::LoneFactor;
-use point_step::PointStep;
 use projection::PinholeCamera;
-use projection::Projected;
 use refusal::Refusal;
 use schur::ReducedSystem;
 
@@ -128,49 +124,4 @@ pub fn system_numbers(s: ReducedSystem) -> [f64; 45]
     ];
     memory::copy(&last, 42, &mut values);
     values
-}
-
-pub fn step_numbers(s: StepResult) -> [f64; 12]
-    ensures { λ r. ⌜ r ≡ Flat.stepNumbers s ⌝ }
-{
-    let p = s.pose_step;
-    [
-        p[0],
-        p[1],
-        p[2],
-        p[3],
-        p[4],
-        s.cost,
-        s.squared_residual,
-        s.gradient_norm,
-        s.minimum_point_rcond,
-        s.point_step_rms,
-        s.point_damping_norm,
-        s.predicted_reduction,
-    ]
-}
-
-// Residual and Jacobian
-pub fn projection_numbers(p: Projected) -> [f64; 8]
-    ensures { λ r. ⌜ r ≡ Flat.projectionNumbers p ⌝ }
-{
-    let r = p.residual;
-    let j = p.jacobian;
-    [r[0], r[1], j[0], j[1], j[2], j[3], j[4], j[5]]
-}
-
-// Inverse and rcond
-pub fn factor_numbers(f: LoneFactor) -> [f64; 7]
-    ensures { λ r. ⌜ r ≡ Flat.factorNumbers f ⌝ }
-{
-    let i = f.inverse;
-    [i[0], i[1], i[2], i[3], i[4], i[5], f.rcond]
-}
-
-// Step and damping norm
-pub fn point_step_numbers(p: PointStep) -> [f64; 4]
-    ensures { λ r. ⌜ r ≡ Flat.pointStepNumbers p ⌝ }
-{
-    let s = p.step;
-    [s[0], s[1], s[2], p.damping_norm]
 }

@@ -6,6 +6,7 @@ use mathlib.Core.List.{List, [], _∷_}
 use lib.Dec.{leb}
 use lib.ListN.{length}
 use lib.Ieee.{Float}
+use Rattle.number.specs.Vectors.{_!_}
 use Rattle.refusal.specs.Refused.{none}
 use Rattle.projection.specs.Projection as Projection
 use Rattle.point_block.specs.Damping as Damping
@@ -15,10 +16,30 @@ use Rattle.point_block.specs.Lone as Lone
 use Rattle.solver.specs.Solver as Solver
 use Rattle.linearization.specs.Linearize as Linearize
 use Rattle.point_step.specs.PointStep as PointStep
+use Rattle.projection.specs.declared.Projected.{Projected}
+use Rattle.point_block.specs.declared.LoneFactor.{LoneFactor}
+use Rattle.point_step.specs.declared.PointStep.{PointStep as PointStep·}
 use Rattle.text.specs.Text.{pasted}
 use Rattle.record.specs.Lists.{list}
-use Rattle.flat.specs.Flat.{camera, rig, correspondence, block, blockNumbers, projectionNumbers, factorNumbers, pointStepNumbers}
+use Rattle.flat.specs.Flat.{camera, rig, correspondence, block, blockNumbers}
 use Rattle.flat.specs.Answers.{Answer, answer, long}
+
+-- residual and Jacobian
+abbrev pub projectionNumbers : Projected → List Float
+projectionNumbers p =
+    let r = p .residual in
+    let j = p .jacobian in
+    r ! 0 ∷ r ! 1 ∷ j ! 0 ∷ j ! 1 ∷ j ! 2 ∷ j ! 3 ∷ j ! 4 ∷ j ! 5 ∷ []
+
+-- inverse and rcond
+abbrev pub factorNumbers : LoneFactor → List Float
+factorNumbers f =
+    let i = f .inverse in
+    i ! 0 ∷ i ! 1 ∷ i ! 2 ∷ i ! 3 ∷ i ! 4 ∷ i ! 5 ∷ f .rcond ∷ []
+
+-- step and damping norm
+abbrev pub pointStepNumbers : PointStep· → List Float
+pointStepNumbers p = p .step ! 0 ∷ p .step ! 1 ∷ p .step ! 2 ∷ p .«damping_norm» ∷ []
 
 unfoldable pub pixelProjection : List Float → List Float → List Float → List Float → Answer Float
 pixelProjection c observation point out =

@@ -1,6 +1,8 @@
 // The block of one point, and how the point moves. A block is 59 numbers.
+ghost use mathlib.Core.Path.{_≡_};
 ghost use Rattle.flat.specs.Answers as Answers;
 ghost use Rattle.pixel_step.specs.Interface as Interface;
+use point_step::PointStep;
 
 // rig: 29; correspondence: point, view 1, view 2, inverse deviation, 8; out: a block
 #[no_mangle]
@@ -47,6 +49,14 @@ pub extern "C" fn pixel_step_point_step_with_damping_norm(
     let b = flat::block(block);
     let p = point_step::point_step_with_damping_norm(b, damping, flat::vector5(pose_step, 0));
     let refusal = p.refusal;
-    let values = flat::point_step_numbers(p);
+    let values = point_step_numbers(p);
     flat::answer(refusal, &values, out)
+}
+
+// Step and damping norm
+fn point_step_numbers(p: PointStep) -> [f64; 4]
+    ensures { λ r. ⌜ r ≡ Interface.pointStepNumbers p ⌝ }
+{
+    let s = p.step;
+    [s[0], s[1], s[2], p.damping_norm]
 }

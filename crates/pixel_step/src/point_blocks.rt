@@ -1,6 +1,8 @@
 // The 3 by 3 point block. A matrix is 9 numbers, row by row; an inverse is 6, packed.
+ghost use mathlib.Core.Path.{_≡_};
 ghost use Rattle.flat.specs.Answers as Answers;
 ghost use Rattle.pixel_step.specs.Interface as Interface;
+use point_block::LoneFactor;
 use point_block::PointBlockFactor;
 use refusal::Refusal;
 
@@ -70,7 +72,7 @@ pub extern "C" fn pixel_step_factor_new(matrix: &[f64], damping: f64, out: &mut 
     }
     let f = PointBlockFactor::new(flat::vector9(matrix, 0), damping);
     let refusal = f.refusal;
-    let values = flat::factor_numbers(f);
+    let values = factor_numbers(f);
     flat::answer(refusal, &values, out)
 }
 
@@ -109,4 +111,12 @@ pub extern "C" fn pixel_step_reciprocal_condition_number(
     };
     let values = [factor.reciprocal_condition_number(flat::vector9(matrix, 0))];
     flat::answer(Refusal::none(), &values, out)
+}
+
+// Inverse and rcond
+fn factor_numbers(f: LoneFactor) -> [f64; 7]
+    ensures { λ r. ⌜ r ≡ Interface.factorNumbers f ⌝ }
+{
+    let i = f.inverse;
+    [i[0], i[1], i[2], i[3], i[4], i[5], f.rcond]
 }

@@ -1,6 +1,8 @@
 // The projection.
+ghost use mathlib.Core.Path.{_≡_};
 ghost use Rattle.flat.specs.Answers as Answers;
 ghost use Rattle.pixel_step.specs.Interface as Interface;
+use projection::Projected;
 
 // camera: fx, fy, cx, cy, skew; observation: 2; point: 3; out: residual 2, Jacobian 6
 #[no_mangle]
@@ -22,6 +24,15 @@ pub extern "C" fn pixel_step_pixel_projection(
         flat::vector3(point, 0),
     );
     let refusal = p.refusal;
-    let values = flat::projection_numbers(p);
+    let values = projection_numbers(p);
     flat::answer(refusal, &values, out)
+}
+
+// Residual and Jacobian
+fn projection_numbers(p: Projected) -> [f64; 8]
+    ensures { λ r. ⌜ r ≡ Interface.projectionNumbers p ⌝ }
+{
+    let r = p.residual;
+    let j = p.jacobian;
+    [r[0], r[1], j[0], j[1], j[2], j[3], j[4], j[5]]
 }

@@ -1,5 +1,3 @@
 -- Module 5 of document 01: schur.rs.
 pub mod System
 pub mod Model
-pub mod Calls
-pub mod Claim

@@ -13,9 +13,9 @@ use Rattle.checks.specs.Problem.{Problem}
 use Rattle.optimizer.specs.Step as Step
 use Rattle.checks.specs.declared.Rig.{Rig}
 use Rattle.optimizer.specs.declared.StepResult.{StepResult}
-use Rattle.flat.specs.Flat.{rig, systemNumbers, systemCounts, stepNumbers, stepCount}
+use Rattle.flat.specs.Flat.{rig, systemNumbers, systemCounts}
 use Rattle.flat.specs.Answers.{code, lengthsCode, stored, long}
-use Rattle.step_calls.specs.Calls.{change, Changed, step, Stepped}
+use Rattle.step_calls.specs.Calls.{change, Changed, step, Stepped, stepNumbers, stepCount}
 
 -- row 1
 pub too-short-system : (fits : Bool) (refusal : Refusal) (s : ReducedSystem) (x : List Float) (counts : List ℕ) (number : ℕ) → not fits ≡ true

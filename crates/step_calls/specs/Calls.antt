@@ -13,7 +13,9 @@ use Rattle.schur.specs.declared.system.ReducedSystem.{ReducedSystem}
 use Rattle.checks.specs.Problem.{Problem}
 use Rattle.pose_step.specs.PoseStep as PoseStep
 use Rattle.optimizer.specs.Step as Step
-use Rattle.flat.specs.Flat.{block, system, systemNumbers, systemCounts, flag, stepNumbers, stepCount}
+use Rattle.optimizer.specs.declared.StepResult.{StepResult}
+use Rattle.number.specs.Vectors.{_!_}
+use Rattle.flat.specs.Flat.{block, system, systemNumbers, systemCounts, flag}
 use Rattle.flat.specs.Answers.{code, lengthsCode, stored, Answer, answer, long}
 
 -- ---- calls on a system: 45 numbers, and the weak count, the block count and the flag
@@ -60,6 +62,15 @@ predictedReduction x counts step damping pointDampingNorm out =
     answer (long x 45 && long counts 3 && long step 5 && long out 1) (p .refusal) (p .reduction ∷ []) out
 
 -- ---- the whole step
+
+-- what it gives, the room apart: twelve numbers and the weak count
+abbrev pub stepNumbers : StepResult → List Float
+stepNumbers s =
+    let p = s .«pose_step» in
+    p ! 0 ∷ p ! 1 ∷ p ! 2 ∷ p ! 3 ∷ p ! 4 ∷ s .cost ∷ s .«squared_residual» ∷ s .«gradient_norm» ∷ s .«minimum_point_rcond» ∷ s .«point_step_rms» ∷ s .«point_damping_norm» ∷ s .«predicted_reduction» ∷ []
+
+abbrev pub stepCount : StepResult → List ℕ
+stepCount s = s .«weak_point_count» ∷ []
 
 -- the number that comes back, and the room, the numbers and the count that are lent
 pub record Moved : Type 0 where

@@ -47,15 +47,35 @@ pub fn limit_pose_step(x: &[f64], out: &mut [f64]) -> u64
 fn answer(done: StepResult, out: &mut [f64], weak: &mut [u16]) -> u64
     requires { ⌜ (length (now out) ≡ 12) × (length (now weak) ≡ 1) ⌝ }
     ensures { λ r. ⌜ (r ≡ Answers.code (done .refusal))
-        × (now (out .exit) ≡ Answers.stored (done .refusal) (Flat.stepNumbers done) (now (out .entry)))
-        × (now (weak .exit) ≡ Answers.stored (done .refusal) (Flat.stepCount done) (now (weak .entry))) ⌝ }
+        × (now (out .exit) ≡ Answers.stored (done .refusal) (Calls.stepNumbers done) (now (out .entry)))
+        × (now (weak .exit) ≡ Answers.stored (done .refusal) (Calls.stepCount done) (now (weak .entry))) ⌝ }
 {
     let refusal = done.refusal;
     if !refusal.is_none() {
         return flat::code(refusal);
     }
-    let values = flat::step_numbers(done);
+    let values = step_numbers(done);
     flat::store(&values, out);
     weak[0] = done.weak_point_count;
     flat::code(refusal)
+}
+
+fn step_numbers(s: StepResult) -> [f64; 12]
+    ensures { λ r. ⌜ r ≡ Calls.stepNumbers s ⌝ }
+{
+    let p = s.pose_step;
+    [
+        p[0],
+        p[1],
+        p[2],
+        p[3],
+        p[4],
+        s.cost,
+        s.squared_residual,
+        s.gradient_norm,
+        s.minimum_point_rcond,
+        s.point_step_rms,
+        s.point_damping_norm,
+        s.predicted_reduction,
+    ]
 }

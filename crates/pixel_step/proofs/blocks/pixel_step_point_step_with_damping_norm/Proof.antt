@@ -6,8 +6,8 @@ use lib.Ieee.{Float}
 use Rattle.point_step.specs.PointStep as PointStep
 use Rattle.linearization.specs.declared.linearize.LocalLinearization.{LocalLinearization}
 use Rattle.point_step.specs.declared.PointStep as Stepped
-use Rattle.flat.specs.Flat.{block, pointStepNumbers}
-use Rattle.pixel_step.specs.Interface.{pointStep}
+use Rattle.flat.specs.Flat.{block}
+use Rattle.pixel_step.specs.Interface.{pointStep, pointStepNumbers}
 use Rattle.flat.proofs.Laws.{whole, too-short, answers, three-fit}
 use borrow.Author.Needs.{needs}
 use Rattle.pixel_step.proofs.blocks.pixel_step_point_step_with_damping_norm.Statement.{statement}

@@ -6,8 +6,8 @@ use lib.Ieee.{Float}
 use Rattle.projection.specs.Projection as Projection
 use Rattle.projection.specs.declared.Projected.{Projected}
 use Rattle.projection.specs.declared.PinholeCamera.{PinholeCamera}
-use Rattle.flat.specs.Flat.{camera, projectionNumbers}
-use Rattle.pixel_step.specs.Interface.{pixelProjection}
+use Rattle.flat.specs.Flat.{camera}
+use Rattle.pixel_step.specs.Interface.{pixelProjection, projectionNumbers}
 use Rattle.flat.proofs.Laws.{whole, whole-camera, too-short, answers, four-fit}
 use borrow.Author.Needs.{needs}
 use Rattle.pixel_step.proofs.projections.pixel_step_pixel_projection.Statement.{statement}

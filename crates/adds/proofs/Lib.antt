@@ -1,0 +1,2 @@
+-- The claim on lists.
+pub mod Claim
