@@ -19,11 +19,11 @@ use Rattle.pose_model.specs.PoseModel.{dampedHessian}
 use Rattle.schur.specs.Model.{withHessian, finishDamping, isValid}
 use Rattle.point_step.specs.PointStep.{stepped, stepOfTerms, pointStep}
 use Rattle.schur.specs.System.{newSystem}
-use Rattle.adds.specs.Claim.{WeakCount}
-use Rattle.adds.specs.Calls.{Inputs, Call, atDamping, after, factors, smallRcond, atZero, blocksIn, all, filter}
+use Rattle.schur.specs.Claim.{WeakCount}
+use Rattle.schur.specs.Calls.{Inputs, Call, atDamping, after, factors, smallRcond, atZero, blocksIn, all, filter}
 use Rattle.linearization.specs.declared.linearize.LocalLinearization.{LocalLinearization}
 use Rattle.schur.specs.declared.system.ReducedSystem.{ReducedSystem}
-use Rattle.adds.proofs.Claim.{claim}
+use Rattle.schur.proofs.Claim.{claim}
 use Rattle.checks.specs.Problem.{Problem, count, correspondenceAt}
 use Rattle.checks.proofs.Passed.{both-hold}
 use Rattle.optimizer.specs.Step.{blockOf, blockAt, systemTo, reducedSystem, pointStepOf, stepAt}

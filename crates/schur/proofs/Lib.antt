@@ -1,2 +1,3 @@
--- Laws of the system.
+-- Laws of the system, and the claim on lists.
 pub mod Adding
+pub mod Claim

@@ -1,2 +1,0 @@
--- The claim on lists.
-pub mod Claim
