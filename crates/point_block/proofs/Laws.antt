@@ -15,14 +15,14 @@ use Rattle.number.proofs.Order.{largest-three, nonneg-largest, nonneg-floor, no
 use Rattle.refusal.specs.Rows as Rows
 use Rattle.refusal.specs.Refused.{of, none, isRowNone, isNone}
 use Rattle.refusal.specs.declared.Refusal.{Refusal}
+use Rattle.cholesky.specs.Cholesky.{invert}
+use Rattle.cholesky.specs.declared.Inverse.{Inverse}
 use Rattle.point_block.specs.declared.DampingDiagonal.{DampingDiagonal}
 use Rattle.point_block.specs.declared.DampedMatrix.{DampedMatrix}
-use Rattle.point_block.specs.declared.Scale.{Scale}
-use Rattle.point_block.specs.declared.Cholesky.{Cholesky}
 use Rattle.point_block.specs.declared.PointBlockFactor.{PointBlockFactor}
 use Rattle.point_block.specs.declared.LoneFactor.{LoneFactor}
 use Rattle.point_block.specs.Damping.{largestDiagonal, floored, dampingDiagonal, addedDiagonal, dampedMatrix}
-use Rattle.point_block.specs.Factor.{scaleOf, scaledOf, choleskyOf, goodPivots, inverseOf, notFactored, factorDamped}
+use Rattle.point_block.specs.Factor.{notFactored, factorDamped}
 use Rattle.point_block.specs.Condition.{rowNorm, infinityNorm, inverseMatrix, reciprocalConditionNumber}
 use Rattle.point_block.specs.Lone.{factor, goodDamping, refused, loneFactor}
 
@@ -81,14 +81,14 @@ module _ (m : List Float) (damping : Float) (d : DampingDiagonal) (b : Bool) (e 
   unfolding dampedMatrix
   damped-some x p q = rw (← e, ← t, not-false b p, q) refl
 
-module _ (m : List Float) (scale : Scale) (c : Cholesky) (b : Bool) (e : scale ≡ scaleOf m) (f : c ≡ choleskyOf (scaledOf m scale)) (t : b ≡ goodPivots c) where
-  pub factored-none : (r : PointBlockFactor) → not b ≡ true → r ≡ notFactored → r ≡ factorDamped m
+module _ (m d : List Float) (i : Inverse) (e : d ≡ floored m) (f : i ≡ invert m d) where
+  pub factored-none : (r : PointBlockFactor) → not (i .good) ≡ true → r ≡ notFactored → r ≡ factorDamped m
   unfolding factorDamped
-  factored-none r p q = rw (← e, ← f, ← t, not-true b p) q
+  factored-none r p q = rw (← e, ← f, not-true (i .good) p) q
 
-  pub factored-some : (i : List Float) (r : Refusal) → not b ≡ false → i ≡ inverseOf (c .lower) scale → r ≡ none → record { inverse = i; refusal = r } ≡ factorDamped m
+  pub factored-some : (r : Refusal) → not (i .good) ≡ false → r ≡ none → record { inverse = i .values; refusal = r } ≡ factorDamped m
   unfolding factorDamped
-  factored-some i r p q s = rw (← e, ← f, ← t, not-false b p, q, s) refl
+  factored-some r p q = rw (← e, ← f, not-false (i .good) p, q) refl
 
 module _ (m : List Float) (damping : Float) (d : DampedMatrix) (b : Bool) (r : PointBlockFactor) (e : d ≡ dampedMatrix m damping) (t : b ≡ isNone (d .refusal)) where
   pub factor-none : not b ≡ true → r ≡ notFactored → r ≡ factor m damping

@@ -1,6 +1,4 @@
 -- `point_block::PointBlockFactor::factor_damped` meets its contract. Assumes nothing.
-use mathlib.Core.Path.{ap, _∙_}
-use Rattle.point_block.specs.Factor.{choleskyOf}
 use Rattle.point_block.proofs.Laws.{factored-none, factored-some}
 use borrow.Author.Needs.{needs}
 use Rattle.point_block.proofs.PointBlockFactor.factor_damped.Statement.{statement}
@@ -8,19 +6,13 @@ use Rattle.point_block.proofs.PointBlockFactor.factor_damped.Tie as tie
 
 returns : tie.Need-returns
 returns c =
-    let t = c .before .before in
-    let k = t .before in
-    factored-none _ _ _ _ (k .before .before .scale-of .ensures) (k .cholesky-of .ensures ∙ ap choleskyOf (k .before .scaled-of .ensures)) (t .good-pivots .ensures) _ (c .before .if1 .taken)
-    (c .not-factored .ensures)
+    let t = c .before .before .before in
+    factored-none _ _ _ (t .before .floored .ensures) (t .invert .ensures) _ (c .before .if1 .taken) (c .not-factored .ensures)
 
 returns-2 : tie.Need-returns-2
 returns-2 c =
     let t = c .before .before .before .before in
-    let k = t .before in
-    factored-some _ _ _ _ (k .before .before .scale-of .ensures) (k .cholesky-of .ensures ∙ ap choleskyOf (k .before .scaled-of .ensures)) (t .good-pivots .ensures) _ _
-    (c .before .before .before .if1 .left)
-    (c .before .inverse-of .ensures)
-    (c .none .ensures)
+    factored-some _ _ _ (t .before .floored .ensures) (t .invert .ensures) _ (c .before .before .if1 .left) (c .none .ensures)
 
 pub factor-damped-spec : {M : Type 1} → statement M
 factor-damped-spec =
@@ -30,8 +22,6 @@ factor-damped-spec =
     (λ c κs. search needs)
     (λ c κs. search needs)
     (λ c κs. search needs)
-    (λ c κs. search needs)
     returns
-    (λ c κs. search needs)
     (λ c κs. search needs)
     returns-2)

@@ -1,9 +1,9 @@
--- `point_block::good_pivots` meets its contract. Assumes nothing.
+-- `cholesky::good_pivots` meets its contract. Assumes nothing.
 use mathlib.Core.Path.{refl}
-use Rattle.point_block.specs.Factor.{goodPivots}
+use Rattle.cholesky.specs.Cholesky.{goodPivots}
 use borrow.Author.Needs.{needs}
-use Rattle.point_block.proofs.good_pivots.Statement.{statement}
-use Rattle.point_block.proofs.good_pivots.Tie as tie
+use Rattle.cholesky.proofs.good_pivots.Statement.{statement}
+use Rattle.cholesky.proofs.good_pivots.Tie as tie
 
 returns : tie.Need-returns
 unfolding goodPivots

@@ -1,9 +1,9 @@
--- `point_block::cholesky_of` meets its contract. Assumes nothing.
+-- `cholesky::cholesky_of` meets its contract. Assumes nothing.
 use mathlib.Core.Path.{refl}
-use Rattle.point_block.specs.Factor.{choleskyOf}
+use Rattle.cholesky.specs.Cholesky.{choleskyOf}
 use borrow.Author.Needs.{needs}
-use Rattle.point_block.proofs.cholesky_of.Statement.{statement}
-use Rattle.point_block.proofs.cholesky_of.Tie as tie
+use Rattle.cholesky.proofs.cholesky_of.Statement.{statement}
+use Rattle.cholesky.proofs.cholesky_of.Tie as tie
 
 returns : tie.Need-returns
 unfolding choleskyOf

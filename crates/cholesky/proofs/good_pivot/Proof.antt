@@ -1,8 +1,8 @@
--- `point_block::good_pivot` meets its contract. Assumes nothing.
+-- `cholesky::good_pivot` meets its contract. Assumes nothing.
 use mathlib.Core.Path.{refl}
 use borrow.Author.Needs.{needs}
-use Rattle.point_block.proofs.good_pivot.Statement.{statement}
-use Rattle.point_block.proofs.good_pivot.Tie as tie
+use Rattle.cholesky.proofs.good_pivot.Statement.{statement}
+use Rattle.cholesky.proofs.good_pivot.Tie as tie
 
 returns : tie.Need-returns
 returns c = rw (c .is-finite .ensures) refl

@@ -1,0 +1,2 @@
+-- The two answers of `invert`.
+mod Laws

@@ -1,0 +1,2 @@
+-- The factor of module 3 of document 01: point_block.rs.
+pub mod Cholesky
