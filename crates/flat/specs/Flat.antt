@@ -11,7 +11,7 @@ use Rattle.refusal.specs.Refused.{none}
 use Rattle.projection.specs.declared.PinholeCamera.{PinholeCamera}
 use Rattle.projection.specs.declared.Projected.{Projected}
 use Rattle.point_block.specs.declared.LoneFactor.{LoneFactor}
-use Rattle.linearization.specs.declared.views.Correspondence.{Correspondence}
+use Rattle.views.specs.declared.Correspondence.{Correspondence}
 use Rattle.linearization.specs.declared.linearize.LocalLinearization.{LocalLinearization}
 use Rattle.schur.specs.declared.system.ReducedSystem.{ReducedSystem}
 use Rattle.point_step.specs.declared.PointStep.{PointStep}

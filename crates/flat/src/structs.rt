@@ -3,9 +3,7 @@ ghost use mathlib.Core.Path.{_≡_};
 ghost use Rattle.flat.specs.Flat as Flat;
 use crate::memory;
 use checks::Rig;
-use linearization::Correspondence;
 use linearization::LocalLinearization;
-use linearization::Pose;
 use optimizer::StepResult;
 use point_block::LoneFactor;
 use point_step::PointStep;
@@ -13,6 +11,8 @@ use projection::PinholeCamera;
 use projection::Projected;
 use refusal::Refusal;
 use schur::ReducedSystem;
+use views::Correspondence;
+use views::Pose;
 
 // Five numbers, from `start` on
 pub fn camera(x: &[f64], start: u32) -> PinholeCamera
