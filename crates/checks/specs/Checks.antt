@@ -14,7 +14,7 @@ use Rattle.refusal.specs.Refused.{at, of, isNone}
 use Rattle.refusal.specs.First.{unless, firstOf, first}
 use Rattle.refusal.specs.declared.Refusal.{Refusal}
 use Rattle.point_block.specs.Lone.{goodDamping}
-use Rattle.linearization.specs.Views.{goodDeviation}
+use Rattle.views.specs.Views.{goodDeviation}
 use Rattle.checks.specs.declared.Rig.{Rig}
 use Rattle.checks.specs.Problem.{Problem, count, triple, pair, observation, project}
 

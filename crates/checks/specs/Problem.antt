@@ -9,7 +9,7 @@ use Rattle.number.specs.Vectors.{_!_}
 use Rattle.projection.specs.Pose.{rotate, cameraPoint}
 use Rattle.projection.specs.Projection.{pixelProjection}
 use Rattle.projection.specs.declared.Projected.{Projected}
-use Rattle.linearization.specs.declared.views.Correspondence.{Correspondence}
+use Rattle.views.specs.declared.Correspondence.{Correspondence}
 use Rattle.checks.specs.declared.Rig.{Rig}
 
 -- three numbers a point, two a point in each view, one a point

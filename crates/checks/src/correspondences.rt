@@ -8,8 +8,8 @@ ghost use Prim.Native.Nat.{_<_, _*_, _+_};
 ghost use lib.ListN.{length};
 ghost use Rattle.checks.specs.Problem as Problem;
 use crate::Rig;
-use linearization::Correspondence;
 use projection::Projected;
+use views::Correspondence;
 
 pub(crate) fn point_at(points: &[f64], i: u32) -> [f64; 3]
     ensures { λ r. ⌜ r ≡ Problem.triple (now (points .entry)) i ⌝ }

@@ -6,9 +6,9 @@ mod correspondences;
 mod rows;
 
 pub use correspondences::correspondence_at;
-use linearization::Pose;
 use projection::PinholeCamera;
 pub use rows::refused;
+use views::Pose;
 
 // The two cameras, and how the second one sits
 pub struct Rig {

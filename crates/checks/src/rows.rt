@@ -87,7 +87,7 @@ fn deviations_refused(inverse_deviations: &[f64], n: u32) -> Refusal
     ensures { λ r. ⌜ r ≡ First.first (Checks.deviationRefused (now («inverse_deviations» .entry))) 0 n ⌝ }
 {
     for i in 0..n {
-        if !linearization::good_deviation(number::entry(inverse_deviations, i as usize)) {
+        if !views::good_deviation(number::entry(inverse_deviations, i as usize)) {
             return Refusal::at(refusal::INVERSE_DEVIATION, 0, i);
         }
     }

@@ -4,9 +4,9 @@ ghost use mathlib.Core.Path.{_≡_};
 ghost use Prim.Native.Nat.{_≤_};
 ghost use lib.ListN.{length};
 use checks::Rig;
-use linearization::Pose;
 use optimizer::StepResult;
 use projection::PinholeCamera;
+use views::Pose;
 
 // What is varied of five points at depth 1, seen without error by two cameras that stand one apart
 struct Problem {

@@ -1,9 +1,9 @@
 // The figures of the block maker and of the system: document 01's sample plate, and its rows.
-use linearization::Correspondence;
 use linearization::LocalLinearization;
-use linearization::Pose;
 use projection::PinholeCamera;
 use schur::ReducedSystem;
+use views::Correspondence;
+use views::Pose;
 
 pub fn print() {
     plate();

@@ -3,12 +3,12 @@ ghost use mathlib.Core.Path.{_≡_};
 ghost use Rattle.flat.specs.Flat as Flat;
 use crate::memory;
 use checks::Rig;
-use linearization::Correspondence;
 use linearization::LocalLinearization;
-use linearization::Pose;
 use projection::PinholeCamera;
 use refusal::Refusal;
 use schur::ReducedSystem;
+use views::Correspondence;
+use views::Pose;
 
 // Five numbers, from `start` on
 pub fn camera(x: &[f64], start: u32) -> PinholeCamera

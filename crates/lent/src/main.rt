@@ -2,12 +2,12 @@
 // Each line has a figure of the one, then of the other, as patterns of sixteen capital digits: the two columns have to be equal.
 ghost use mathlib.Core.Path.{_≡_};
 ghost use Rattle.schur.specs.System as System;
-use linearization::Correspondence;
 use linearization::LocalLinearization;
-use linearization::Pose;
 use projection::PinholeCamera;
 use schur::Added;
 use schur::ReducedSystem;
+use views::Correspondence;
+use views::Pose;
 
 struct Both {
     lent: ReducedSystem,

@@ -20,11 +20,11 @@ use Rattle.projection.specs.declared.PinholeCamera.{PinholeCamera}
 use Rattle.projection.specs.declared.Projected.{Projected}
 use Rattle.projection.proofs.Laws.{projection-finite}
 use Rattle.linearization.specs.declared.linearize.LocalLinearization.{LocalLinearization}
-use Rattle.linearization.specs.declared.views.Pose.{Pose}
-use Rattle.linearization.specs.declared.views.Correspondence.{Correspondence}
-use Rattle.linearization.specs.declared.views.LinearizedViews.{LinearizedViews}
-use Rattle.linearization.specs.Loss.{norm, lossCost}
-use Rattle.linearization.specs.Views.{goodDeviation, notSeen, weightedViews, linearizeViews}
+use Rattle.views.specs.declared.Pose.{Pose}
+use Rattle.views.specs.declared.Correspondence.{Correspondence}
+use Rattle.views.specs.declared.LinearizedViews.{LinearizedViews}
+use Rattle.views.specs.Loss.{norm, lossCost}
+use Rattle.views.specs.Views.{goodDeviation, notSeen, weightedViews, linearizeViews}
 use Rattle.linearization.specs.Linearize.{notMade, sums, block, linearizePoint}
 
 abbrev pub Costs : LocalLinearization → Type 0

@@ -9,13 +9,13 @@ use Rattle.refusal.specs.declared.Refusal.{Refusal}
 use Rattle.projection.specs.declared.PinholeCamera.{PinholeCamera}
 use Rattle.linearization.specs.declared.linearize.LocalLinearization.{LocalLinearization}
 use Rattle.linearization.specs.declared.terms.PointTerms.{PointTerms}
-use Rattle.linearization.specs.declared.views.Pose.{Pose}
-use Rattle.linearization.specs.declared.views.Correspondence.{Correspondence}
-use Rattle.linearization.specs.declared.views.View1.{View1}
-use Rattle.linearization.specs.declared.views.View2.{View2}
-use Rattle.linearization.specs.declared.views.LinearizedViews.{LinearizedViews}
-use Rattle.linearization.specs.Loss.{norm, lossCost}
-use Rattle.linearization.specs.Views.{linearizeViews}
+use Rattle.views.specs.declared.Pose.{Pose}
+use Rattle.views.specs.declared.Correspondence.{Correspondence}
+use Rattle.views.specs.declared.View1.{View1}
+use Rattle.views.specs.declared.View2.{View2}
+use Rattle.views.specs.declared.LinearizedViews.{LinearizedViews}
+use Rattle.views.specs.Loss.{norm, lossCost}
+use Rattle.views.specs.Views.{linearizeViews}
 use Rattle.accumulate.specs.Accumulate.{poseHessian, crossHessian, pointHessian, poseGradient, pointGradient}
 
 -- every number beside a refusal is +0

@@ -4,14 +4,12 @@
 // The block maker: what one point adds to the system.
 ghost use mathlib.Core.Path.{_≡_};
 ghost use Rattle.linearization.specs.Linearize as Linearize;
-use crate::loss;
 use crate::terms;
-use crate::views;
-use crate::views::Correspondence;
-use crate::views::LinearizedViews;
-use crate::views::Pose;
 use projection::PinholeCamera;
 use refusal::Refusal;
+use views::Correspondence;
+use views::LinearizedViews;
+use views::Pose;
 
 // A point's block: 5 by 5, 5 by 3 and 3 by 3, row by row, with its gradients and its cost. Beside a
 // refusal every number is +0.
@@ -64,11 +62,11 @@ fn block(views: LinearizedViews, inverse_deviation: f64) -> LocalLinearization
 {
     let residual1 = views.residual1;
     let residual2 = views.residual2;
-    let norm1 = loss::norm(residual1);
-    let norm2 = loss::norm(residual2);
+    let norm1 = views::norm(residual1);
+    let norm2 = views::norm(residual2);
     let cost = 0.0
-        + loss::loss_cost(norm1 * inverse_deviation)
-        + loss::loss_cost(norm2 * inverse_deviation);
+        + views::loss_cost(norm1 * inverse_deviation)
+        + views::loss_cost(norm2 * inverse_deviation);
     sums(views, cost, 0.0 + norm1 * norm1 + norm2 * norm2)
 }
 

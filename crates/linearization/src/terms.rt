@@ -6,13 +6,12 @@
 ghost use mathlib.Core.Path.{_≡_};
 ghost use Rattle.linearization.specs.Linearize as Linearize;
 use crate::linearize::LocalLinearization;
-use crate::views;
-use crate::views::Correspondence;
-use crate::views::Pose;
-use crate::views::View1;
-use crate::views::View2;
 use projection::PinholeCamera;
 use refusal::Refusal;
+use views::Correspondence;
+use views::Pose;
+use views::View1;
+use views::View2;
 
 // Beside a refusal every number is +0.
 pub struct PointTerms {

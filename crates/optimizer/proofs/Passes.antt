@@ -17,7 +17,7 @@ use Rattle.schur.specs.Model.{finishDamping}
 use Rattle.linearization.specs.Linearize.{pointTerms}
 use Rattle.point_step.specs.PointStep.{stepOf, stepped, notStepped, stepOfTerms, pointStep}
 use Rattle.linearization.specs.declared.linearize.LocalLinearization.{LocalLinearization}
-use Rattle.linearization.specs.declared.views.Correspondence.{Correspondence}
+use Rattle.views.specs.declared.Correspondence.{Correspondence}
 use Rattle.point_step.specs.declared.PointStep.{PointStep}
 use Rattle.schur.specs.declared.system.ReducedSystem.{ReducedSystem}
 use Rattle.schur.specs.declared.system.Added.{Added}

@@ -16,7 +16,7 @@ use Rattle.refusal.specs.Refused.{of, none, isNone}
 use Rattle.refusal.specs.declared.Refusal.{Refusal}
 use Rattle.linearization.specs.Linearize.{linearizePoint}
 use Rattle.linearization.specs.declared.linearize.LocalLinearization.{LocalLinearization}
-use Rattle.linearization.specs.declared.views.Correspondence.{Correspondence}
+use Rattle.views.specs.declared.Correspondence.{Correspondence}
 use Rattle.checks.specs.Problem.{Problem, count, correspondenceAt}
 use Rattle.checks.specs.Checks as Checks
 use Rattle.checks.specs.declared.Rig.{Rig}

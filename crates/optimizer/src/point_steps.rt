@@ -10,9 +10,9 @@ ghost use Rattle.checks.specs.Problem as Problem;
 ghost use Rattle.linearization.specs.Linearize as Linearize;
 ghost use Rattle.optimizer.specs.Step as Steps;
 use checks::Rig;
-use linearization::Correspondence;
 use linearization::PointTerms;
 use point_step::PointStep;
+use views::Correspondence;
 
 // The squared lengths of the point steps and their damping norms, summed
 pub struct Sums {

@@ -9,10 +9,10 @@ ghost use Rattle.checks.specs.Checks as Checks;
 ghost use Rattle.checks.specs.Problem as Problem;
 ghost use Rattle.optimizer.specs.Step as Steps;
 use checks::Rig;
-use linearization::Correspondence;
 use linearization::LocalLinearization;
 use refusal::Refusal;
 use schur::ReducedSystem;
+use views::Correspondence;
 
 // A problem's system after the pose damping; beside a refusal every number is +0.
 pub struct Reduced {

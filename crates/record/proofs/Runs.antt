@@ -14,7 +14,7 @@ use lib.Ieee.{Float}
 use Rattle.number.specs.Vectors.{_!_, tabulate}
 use Rattle.number.proofs.Fill.{length-tabulate, filled}
 use Rattle.projection.specs.declared.PinholeCamera.{PinholeCamera}
-use Rattle.linearization.specs.declared.views.Correspondence.{Correspondence}
+use Rattle.views.specs.declared.Correspondence.{Correspondence}
 use Rattle.linearization.specs.declared.linearize.LocalLinearization.{LocalLinearization}
 use Rattle.checks.specs.declared.Rig.{Rig}
 use Rattle.checks.specs.Problem.{Problem, problem, correspondenceAt}

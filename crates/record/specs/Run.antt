@@ -5,7 +5,7 @@ use mathlib.Core.List.{List, [], _∷_, _++_}
 use lib.Ieee.{Float, binary64, ofBits}
 use Rattle.number.specs.Vectors.{tabulate}
 use Rattle.projection.specs.declared.PinholeCamera.{PinholeCamera}
-use Rattle.linearization.specs.declared.views.Correspondence.{Correspondence}
+use Rattle.views.specs.declared.Correspondence.{Correspondence}
 use Rattle.checks.specs.declared.Rig.{Rig}
 use Rattle.checks.specs.Problem.{Problem, problem}
 use Rattle.record_form.specs.Form.{byte, camera1At, camera2At, poseAt, basisAt, dampingAt, pointsAt, pointFields, Formed}

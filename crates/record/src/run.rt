@@ -7,10 +7,10 @@ ghost use Rattle.optimizer.specs.Step as Steps;
 ghost use Rattle.record_form.specs.Form as Form;
 ghost use Rattle.record.specs.Run as Run;
 use checks::Rig;
-use linearization::Correspondence;
 use linearization::LocalLinearization;
-use linearization::Pose;
 use projection::PinholeCamera;
+use views::Correspondence;
+use views::Pose;
 
 // The most points of a record
 const MAX_POINTS: usize = 512;

@@ -6,11 +6,11 @@ use crate::files;
 use crate::files::ROOM;
 use crate::outcomes::Outcome;
 use crate::projections;
-use linearization::Correspondence;
 use linearization::LocalLinearization;
-use linearization::Pose;
 use refusal::Refusal;
 use schur::ReducedSystem;
+use views::Correspondence;
+use views::Pose;
 
 pub fn replay(text: &mut [u8; ROOM]) {
     files::replay(text, b"linearize_point.txt", 37, Call::LinearizePoint);

@@ -12,8 +12,8 @@ use Rattle.refusal.specs.declared.Refusal.{Refusal}
 use Rattle.projection.specs.declared.PinholeCamera.{PinholeCamera}
 use Rattle.point_block.specs.Lone.{goodDamping, loneFactor}
 use Rattle.linearization.specs.declared.linearize.LocalLinearization.{LocalLinearization}
-use Rattle.linearization.specs.declared.views.Pose.{Pose}
-use Rattle.linearization.specs.declared.views.Correspondence.{Correspondence}
+use Rattle.views.specs.declared.Pose.{Pose}
+use Rattle.views.specs.declared.Correspondence.{Correspondence}
 use Rattle.schur.specs.declared.system.ReducedSystem.{ReducedSystem}
 use Rattle.schur.specs.declared.system.Added.{Added}
 use Rattle.linearization.specs.Linearize.{linearizePoint}

@@ -6,7 +6,7 @@ use borrow.Author.Needs.{needs}
 use Rattle.refusal.specs.Rows as Rows
 use Rattle.refusal.specs.Refused.{at}
 use Rattle.refusal.specs.First.{first}
-use Rattle.linearization.specs.Views.{goodDeviation}
+use Rattle.views.specs.Views.{goodDeviation}
 use Rattle.checks.specs.Checks.{deviationRefused}
 use Rattle.refusal.proofs.Scans.{Scanned, begins, ends, goes-on, leaves, is-good, is-bad, bad, row-refuses}
 use Rattle.checks.proofs.rows.deviations_refused.Statement.{statement}

@@ -1,7 +1,6 @@
 -- `linearization::linearize::block` meets its contract. Assumes nothing.
 use Rattle.linearization.specs.Linearize.{block}
 use mathlib.Core.Path.{refl}
-use Prim.Native.Nat.{_-_}
 use borrow.Author.Needs.{needs}
 use Rattle.linearization.proofs.linearize.block.Statement.{statement}
 use Rattle.linearization.proofs.linearize.block.Tie as tie

@@ -1,6 +1,5 @@
 -- `linearization::linearize::linearize_point` meets its contract. Assumes nothing.
 use Rattle.linearization.proofs.Laws.{not-made, made}
-use Prim.Native.Nat.{_-_}
 use borrow.Author.Needs.{needs}
 use Rattle.linearization.proofs.linearize.linearize_point.Statement.{statement}
 use Rattle.linearization.proofs.linearize.linearize_point.Tie as tie

@@ -1,6 +1,5 @@
 -- `linearization::linearize::sums` meets its contract. Assumes nothing.
 use Rattle.linearization.proofs.Laws.{sums-are}
-use Prim.Native.Nat.{_-_}
 use borrow.Author.Needs.{needs}
 use Rattle.linearization.proofs.linearize.sums.Statement.{statement}
 use Rattle.linearization.proofs.linearize.sums.Tie as tie

@@ -2,7 +2,6 @@
 use Rattle.linearization.specs.Linearize.{notMade, pointTerms}
 use Rattle.linearization.proofs.Laws.{no-terms, some-terms}
 use mathlib.Core.Path.{refl}
-use Prim.Native.Nat.{_-_}
 use borrow.Author.Needs.{needs}
 use Rattle.linearization.proofs.terms.point_terms.Statement.{statement}
 use Rattle.linearization.proofs.terms.point_terms.Tie as tie

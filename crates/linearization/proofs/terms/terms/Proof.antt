@@ -1,7 +1,6 @@
 -- `linearization::terms::terms` meets its contract. Assumes nothing.
 use Rattle.linearization.specs.Linearize.{terms}
 use mathlib.Core.Path.{refl}
-use Prim.Native.Nat.{_-_}
 use borrow.Author.Needs.{needs}
 use Rattle.linearization.proofs.terms.terms.Statement.{statement}
 use Rattle.linearization.proofs.terms.terms.Tie as tie

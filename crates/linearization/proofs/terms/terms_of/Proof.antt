@@ -1,7 +1,6 @@
 -- `linearization::terms::terms_of` meets its contract. Assumes nothing.
 use Rattle.linearization.specs.Linearize.{pointTerms}
 use mathlib.Core.Path.{refl}
-use Prim.Native.Nat.{_-_}
 use Rattle.linearization.proofs.terms.terms_of.Statement.{statement}
 use Rattle.linearization.proofs.terms.terms_of.Tie as tie
 

@@ -1,6 +1,6 @@
 -- `record::run::block_at` meets its contract. Assumes nothing.
 use mathlib.Core.Path.{ap, _∙_}
-use Rattle.linearization.specs.declared.views.Correspondence.{Correspondence}
+use Rattle.views.specs.declared.Correspondence.{Correspondence}
 use Rattle.optimizer.specs.Step.{blockOf}
 use borrow.Author.Needs.{needs}
 use Rattle.record.proofs.run.block_at.Statement.{statement}

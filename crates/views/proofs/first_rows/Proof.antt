@@ -1,9 +1,9 @@
--- `linearization::views::first_rows` meets its contract. Assumes nothing.
+-- `views::first_rows` meets its contract. Assumes nothing.
 use mathlib.Core.Path.{refl}
-use Rattle.linearization.specs.Views.{firstRows}
+use Rattle.views.specs.Views.{firstRows}
 use borrow.Author.Needs.{needs}
-use Rattle.linearization.proofs.views.first_rows.Statement.{statement}
-use Rattle.linearization.proofs.views.first_rows.Tie as tie
+use Rattle.views.proofs.first_rows.Statement.{statement}
+use Rattle.views.proofs.first_rows.Tie as tie
 
 returns : tie.Need-returns
 unfolding firstRows

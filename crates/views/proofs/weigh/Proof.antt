@@ -1,4 +1,4 @@
--- `linearization::views::weigh` meets its contract. Assumes nothing.
+-- `views::weigh` meets its contract. Assumes nothing.
 use mathlib.Core.Path.{_≡_, refl, ap, _∙_}
 use mathlib.Core.List.{List}
 use Prim.Native.Nat.{ℕ, _-_, _≤_}
@@ -8,8 +8,8 @@ use native.Mathlib.Omega.{arith}
 use Rattle.number.proofs.Fill.{filled, fill-next, fill-all, filled-at}
 use Rattle.number.specs.Binary64.{_⊗_}
 use Rattle.number.specs.Vectors.{_!_}
-use Rattle.linearization.proofs.views.weigh.Statement.{statement}
-use Rattle.linearization.proofs.views.weigh.Tie as tie
+use Rattle.views.proofs.weigh.Statement.{statement}
+use Rattle.views.proofs.weigh.Tie as tie
 
 abbrev entry : List Float → Float → ℕ → Float
 entry x₀ weight i = weight ⊗ x₀ ! i

@@ -13,12 +13,12 @@ use Rattle.projection.specs.Pose.{rotate, cameraPoint}
 use Rattle.projection.specs.Projection.{pixelProjection}
 use Rattle.projection.specs.declared.PinholeCamera.{PinholeCamera}
 use Rattle.projection.specs.declared.Projected.{Projected}
-use Rattle.linearization.specs.declared.views.Pose.{Pose}
-use Rattle.linearization.specs.declared.views.Correspondence.{Correspondence}
-use Rattle.linearization.specs.declared.views.View1.{View1}
-use Rattle.linearization.specs.declared.views.View2.{View2}
-use Rattle.linearization.specs.declared.views.LinearizedViews.{LinearizedViews}
-use Rattle.linearization.specs.Loss.{rowWeight}
+use Rattle.views.specs.declared.Pose.{Pose}
+use Rattle.views.specs.declared.Correspondence.{Correspondence}
+use Rattle.views.specs.declared.View1.{View1}
+use Rattle.views.specs.declared.View2.{View2}
+use Rattle.views.specs.declared.LinearizedViews.{LinearizedViews}
+use Rattle.views.specs.Loss.{rowWeight}
 use Rattle.jacobians.specs.Jacobians.{poseMotionJacobian, poseJacobian, pointJacobian}
 
 -- row 4: inverse deviation not finite or ≤ 0

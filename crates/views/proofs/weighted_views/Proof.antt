@@ -1,10 +1,9 @@
--- `linearization::views::weighted_views` meets its contract. Assumes nothing.
-use Rattle.linearization.specs.Views.{weightedViews}
+-- `views::weighted_views` meets its contract. Assumes nothing.
+use Rattle.views.specs.Views.{weightedViews}
 use mathlib.Core.Path.{refl}
-use Prim.Native.Nat.{_-_}
 use borrow.Author.Needs.{needs}
-use Rattle.linearization.proofs.views.weighted_views.Statement.{statement}
-use Rattle.linearization.proofs.views.weighted_views.Tie as tie
+use Rattle.views.proofs.weighted_views.Statement.{statement}
+use Rattle.views.proofs.weighted_views.Tie as tie
 
 returns : tie.Need-returns
 unfolding weightedViews

@@ -1,11 +1,11 @@
--- `linearization::views::second_view` meets its contract. Assumes nothing.
-use Rattle.linearization.specs.Views.{secondView}
+-- `views::second_view` meets its contract. Assumes nothing.
+use Rattle.views.specs.Views.{secondView}
 use mathlib.Core.Path.{_≡_, refl}
 use lib.ListN.{length}
 use native.Mathlib.Omega.{arith}
 use borrow.Author.Needs.{needs}
-use Rattle.linearization.proofs.views.second_view.Statement.{statement}
-use Rattle.linearization.proofs.views.second_view.Tie as tie
+use Rattle.views.proofs.second_view.Statement.{statement}
+use Rattle.views.proofs.second_view.Tie as tie
 
 returns : tie.Need-returns
 unfolding secondView

@@ -1,13 +1,13 @@
--- `linearization::views::first_view` meets its contract. Assumes nothing.
+-- `views::first_view` meets its contract. Assumes nothing.
 use mathlib.Core.Path.{_≡_, refl}
 use Prim.Native.Nat.{_-_, _≤_}
 use native.Mathlib.Omega.{arith}
 use Rattle.number.proofs.Fill.{filledOf, array-none, array-next, array-full}
 use Rattle.number.specs.Binary64.{_⊗_}
 use Rattle.number.specs.Vectors.{_!_}
-use Rattle.linearization.specs.Views.{firstView}
-use Rattle.linearization.proofs.views.first_view.Statement.{statement}
-use Rattle.linearization.proofs.views.first_view.Tie as tie
+use Rattle.views.specs.Views.{firstView}
+use Rattle.views.proofs.first_view.Statement.{statement}
+use Rattle.views.proofs.first_view.Tie as tie
 
 abbrev Inv-loop : tie.InvT-loop
 Inv-loop baseline weight residual j point₀ i₀ point i = (i ≤ 6) × (point ≡ filledOf 6 (λ i. weight ⊗ (j ! i ⊗ baseline)) i)

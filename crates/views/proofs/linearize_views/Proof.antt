@@ -1,8 +1,8 @@
--- `linearization::views::linearize_views` meets its contract. Assumes nothing.
-use Rattle.linearization.proofs.Laws.{deviation-refused, first-refused, second-refused, both-seen}
+-- `views::linearize_views` meets its contract. Assumes nothing.
+use Rattle.views.proofs.Laws.{deviation-refused, first-refused, second-refused, both-seen}
 use borrow.Author.Needs.{needs}
-use Rattle.linearization.proofs.views.linearize_views.Statement.{statement}
-use Rattle.linearization.proofs.views.linearize_views.Tie as tie
+use Rattle.views.proofs.linearize_views.Statement.{statement}
+use Rattle.views.proofs.linearize_views.Tie as tie
 
 returns : tie.Need-returns
 returns c = deviation-refused _ _ _ _ _ (c .before .before .before .good-deviation .ensures) _ _ (c .before .before .if1 .taken) (c .not-seen .ensures) (c .before .of .ensures)

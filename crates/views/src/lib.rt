@@ -2,11 +2,16 @@
 // SPDX-License-Identifier: MIT OR Apache-2.0
 
 // Both views of a point, linearized and weighted: residuals, with their derivatives by the five
-// parameters of the pose and by the three coordinates of the point.
+// parameters of the pose and by the three coordinates of the point. The first half of
+// `linearize_point` of kernel/two_view/schur.rs.
 ghost use mathlib.Core.Path.{_≡_};
 ghost use lib.ListN.{length};
-ghost use Rattle.linearization.specs.Views as Views;
-use crate::loss;
+ghost use Rattle.views.specs.Views as Views;
+
+mod loss;
+
+pub use loss::loss_cost;
+pub use loss::norm;
 use projection::PinholeCamera;
 use projection::Projected;
 use refusal::Refusal;

@@ -1,9 +1,9 @@
--- `linearization::views::second_rows` meets its contract. Assumes nothing.
+-- `views::second_rows` meets its contract. Assumes nothing.
 use mathlib.Core.Path.{refl}
-use Rattle.linearization.specs.Views.{secondRows}
+use Rattle.views.specs.Views.{secondRows}
 use borrow.Author.Needs.{needs}
-use Rattle.linearization.proofs.views.second_rows.Statement.{statement}
-use Rattle.linearization.proofs.views.second_rows.Tie as tie
+use Rattle.views.proofs.second_rows.Statement.{statement}
+use Rattle.views.proofs.second_rows.Tie as tie
 
 returns : tie.Need-returns
 unfolding secondRows

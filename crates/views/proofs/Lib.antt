@@ -1,0 +1,2 @@
+-- Laws of both views.
+mod Laws
