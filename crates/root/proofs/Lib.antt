@@ -1,4 +1,4 @@
--- The root's theorem (`Correct`), what leads to it, and a law that callers cite (`Signs`).
+-- The root's theorem (`Correct`), what leads to it, and laws that callers cite (`Signs`).
 pub mod Whole
 pub mod Patterns
 pub mod Rounded

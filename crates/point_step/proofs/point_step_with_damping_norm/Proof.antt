@@ -1,7 +1,6 @@
 -- `point_step::point_step_with_damping_norm` meets its contract. Assumes nothing.
 use Rattle.point_step.specs.PointStep.{pointStep}
 use mathlib.Core.Path.{refl}
-use Prim.Native.Nat.{_-_}
 use borrow.Author.Needs.{needs}
 use Rattle.point_step.proofs.point_step_with_damping_norm.Statement.{statement}
 use Rattle.point_step.proofs.point_step_with_damping_norm.Tie as tie

@@ -1,6 +1,5 @@
 -- `schur::system::ReducedSystem::eliminated` meets its contract. Assumes nothing.
 use Rattle.schur.proofs.Adding.{eliminated-at-zero, eliminated-elsewhere}
-use Prim.Native.Nat.{_-_}
 use borrow.Author.Needs.{needs}
 use Rattle.schur.proofs.system.ReducedSystem.eliminated.Statement.{statement}
 use Rattle.schur.proofs.system.ReducedSystem.eliminated.Tie as tie

@@ -1,6 +1,5 @@
 -- `schur::system::ReducedSystem::elimination` meets its contract. Assumes nothing.
 use Rattle.schur.proofs.Adding.{eliminates, eliminates-not}
-use Prim.Native.Nat.{_-_}
 use borrow.Author.Needs.{needs}
 use Rattle.schur.proofs.system.ReducedSystem.elimination.Statement.{statement}
 use Rattle.schur.proofs.system.ReducedSystem.elimination.Tie as tie

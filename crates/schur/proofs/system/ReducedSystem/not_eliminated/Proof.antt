@@ -1,7 +1,6 @@
 -- `schur::system::ReducedSystem::not_eliminated` meets its contract. Assumes nothing.
 use Rattle.schur.specs.System.{notEliminated}
 use mathlib.Core.Path.{refl}
-use Prim.Native.Nat.{_-_}
 use borrow.Author.Needs.{needs}
 use Rattle.schur.proofs.system.ReducedSystem.not_eliminated.Statement.{statement}
 use Rattle.schur.proofs.system.ReducedSystem.not_eliminated.Tie as tie

@@ -1,7 +1,6 @@
 -- `schur::system::ReducedSystem::taken` meets its contract. Assumes nothing.
 use Rattle.schur.specs.System.{taken}
 use mathlib.Core.Path.{refl}
-use Prim.Native.Nat.{_-_}
 use borrow.Author.Needs.{needs}
 use Rattle.schur.proofs.system.ReducedSystem.taken.Statement.{statement}
 use Rattle.schur.proofs.system.ReducedSystem.taken.Tie as tie
