@@ -1,26 +1,18 @@
 -- The structs of the calls as flat lists of numbers, and back.
-use Prim.Native.Nat.{ℕ, _+_}
+use Prim.Native.Nat.{ℕ}
 use mathlib.Core.Bool.{Bool, not, cond}
 use mathlib.Core.List.{List, [], _∷_, _++_}
 use lib.Dec.{eqb}
-use lib.ListN.{length, getD}
-use lib.Seq.{paste}
+use lib.ListN.{getD}
 use lib.Ieee.{Float}
-use Rattle.number.specs.Vectors.{_!_, tabulate}
+use Rattle.number.specs.Vectors.{_!_}
+use Rattle.slices.specs.Slices.{part}
 use Rattle.refusal.specs.Refused.{none}
 use Rattle.projection.specs.declared.PinholeCamera.{PinholeCamera}
 use Rattle.views.specs.declared.Correspondence.{Correspondence}
 use Rattle.linearization.specs.declared.linearize.LocalLinearization.{LocalLinearization}
 use Rattle.schur.specs.declared.system.ReducedSystem.{ReducedSystem}
 use Rattle.checks.specs.declared.Rig.{Rig}
-
--- n numbers from a place on; beyond the end they are NaN
-unfoldable pub part : ℕ → ℕ → List Float → List Float
-part start n x = tabulate n (λ i. x ! (start + i))
-
--- `out` with the values in it, from `start` on
-unfoldable pub put : List Float → ℕ → List Float → List Float
-put values start out = paste out start values (length values)
 
 abbrev pub camera : List Float → PinholeCamera
 camera x = record { fx = x ! 0; fy = x ! 1; cx = x ! 2; cy = x ! 3; skew = x ! 4 }

@@ -1,3 +1,2 @@
--- Structs as flat numbers, and answers stored in lent memory.
+-- Structs as flat numbers.
 pub mod Flat
-pub mod Answers

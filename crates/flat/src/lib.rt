@@ -1,22 +1,136 @@
-// Structs as flat numbers and back, and an answer stored in lent memory: what the calls of the C interface share.
-// Each call has an answer for every length: numbers beyond the end of a slice are NaN, counts are 0.
-mod memory;
-mod structs;
+// The structs of the C interface as flat numbers, from lent slices and back. A number beyond the end of a slice is NaN, a
+// count 0.
+ghost use mathlib.Core.Path.{_≡_};
+ghost use lib.ListN.{getD};
+ghost use Rattle.slices.specs.Slices as Slices;
+ghost use Rattle.flat.specs.Flat as Flat;
+use checks::Rig;
+use linearization::LocalLinearization;
+use projection::PinholeCamera;
+use refusal::Refusal;
+use schur::ReducedSystem;
+use views::Correspondence;
+use views::Pose;
 
-pub use memory::answer;
-pub use memory::code;
-pub use memory::lengths;
-pub use memory::store;
-pub use memory::vector2;
-pub use memory::vector3;
-pub use memory::vector5;
-pub use memory::vector6;
-pub use memory::vector9;
-pub use memory::vector25;
-pub use structs::block;
-pub use structs::block_numbers;
-pub use structs::camera;
-pub use structs::correspondence;
-pub use structs::rig;
-pub use structs::system;
-pub use structs::system_numbers;
+// Five numbers, from `start` on
+pub fn camera(x: &[f64], start: u32) -> PinholeCamera
+    ensures { λ r. ⌜ r ≡ Flat.camera (Slices.part start 5 (now (x .entry))) ⌝ }
+{
+    let numbers = slices::vector5(x, start);
+    PinholeCamera {
+        fx: numbers[0],
+        fy: numbers[1],
+        cx: numbers[2],
+        cy: numbers[3],
+        skew: numbers[4],
+    }
+}
+
+// Camera 1 and 2, then how the second one sits
+pub fn rig(x: &[f64]) -> Rig
+    ensures { λ r. ⌜ r ≡ Flat.rig (now (x .entry)) ⌝ }
+{
+    Rig {
+        camera1: camera(x, 0),
+        camera2: camera(x, 5),
+        pose: Pose {
+            rotation: slices::vector9(x, 10),
+            translation: slices::vector3(x, 19),
+            basis: slices::vector6(x, 22),
+            baseline: number::entry(x, 28),
+        },
+    }
+}
+
+pub fn correspondence(x: &[f64]) -> Correspondence
+    ensures { λ r. ⌜ r ≡ Flat.correspondence (now (x .entry)) ⌝ }
+{
+    Correspondence {
+        point: slices::vector3(x, 0),
+        view1: slices::vector2(x, 3),
+        view2: slices::vector2(x, 5),
+        inverse_deviation: number::entry(x, 7),
+    }
+}
+
+pub fn block(x: &[f64]) -> LocalLinearization
+    ensures { λ r. ⌜ r ≡ Flat.block (now (x .entry)) ⌝ }
+{
+    LocalLinearization {
+        pose_hessian: slices::vector25(x, 0),
+        cross_hessian: slices::vector15(x, 25),
+        point_hessian: slices::vector9(x, 40),
+        pose_gradient: slices::vector5(x, 49),
+        point_gradient: slices::vector3(x, 54),
+        cost: number::entry(x, 57),
+        squared_residual: number::entry(x, 58),
+        refusal: Refusal::none(),
+    }
+}
+
+// The flag is false where it is 0.
+pub fn system(x: &[f64], counts: &[u16]) -> ReducedSystem
+    ensures { λ r. ⌜ r ≡ Flat.system (now (x .entry)) (now (counts .entry)) ⌝ }
+{
+    ReducedSystem {
+        hessian: slices::vector25(x, 0),
+        gradient: slices::vector5(x, 25),
+        cost: number::entry(x, 30),
+        squared_residual: number::entry(x, 31),
+        full_pose_gradient: slices::vector5(x, 32),
+        pose_diagonal: slices::vector5(x, 37),
+        point_model_reduction: number::entry(x, 42),
+        scaled_point_gradient_inf_norm: number::entry(x, 43),
+        weak_point_count: count(counts, 0),
+        minimum_point_rcond: number::entry(x, 44),
+        valid: count(counts, 2) != 0,
+        block_count: count(counts, 1),
+    }
+}
+
+pub fn block_numbers(b: LocalLinearization) -> [f64; 59]
+    ensures { λ r. ⌜ r ≡ Flat.blockNumbers b ⌝ }
+{
+    let pose_hessian = b.pose_hessian;
+    let cross_hessian = b.cross_hessian;
+    let point_hessian = b.point_hessian;
+    let pose_gradient = b.pose_gradient;
+    let point_gradient = b.point_gradient;
+    let mut values = [0.0; 59];
+    slices::copy(&pose_hessian, 0, &mut values);
+    slices::copy(&cross_hessian, 25, &mut values);
+    slices::copy(&point_hessian, 40, &mut values);
+    slices::copy(&pose_gradient, 49, &mut values);
+    slices::copy(&point_gradient, 54, &mut values);
+    slices::copy(&[b.cost, b.squared_residual], 57, &mut values);
+    values
+}
+
+pub fn system_numbers(s: ReducedSystem) -> [f64; 45]
+    ensures { λ r. ⌜ r ≡ Flat.systemNumbers s ⌝ }
+{
+    let hessian = s.hessian;
+    let gradient = s.gradient;
+    let full_pose_gradient = s.full_pose_gradient;
+    let pose_diagonal = s.pose_diagonal;
+    let mut values = [0.0; 45];
+    slices::copy(&hessian, 0, &mut values);
+    slices::copy(&gradient, 25, &mut values);
+    slices::copy(&[s.cost, s.squared_residual], 30, &mut values);
+    slices::copy(&full_pose_gradient, 32, &mut values);
+    slices::copy(&pose_diagonal, 37, &mut values);
+    let last = [
+        s.point_model_reduction,
+        s.scaled_point_gradient_inf_norm,
+        s.minimum_point_rcond,
+    ];
+    slices::copy(&last, 42, &mut values);
+    values
+}
+
+// The count at i; beyond the end it is 0.
+fn count(counts: &[u16], i: usize) -> u16
+    ensures { λ r. ⌜ r ≡ getD (now (counts .entry)) i 0 ⌝ }
+{
+    if i < counts.len() { counts[i] } else { 0 }
+}

@@ -22,7 +22,7 @@ use Rattle.point_step.specs.declared.PointStep.{PointStep as PointStep·}
 use Rattle.text.specs.Text.{pasted}
 use Rattle.record.specs.Lists.{list}
 use Rattle.flat.specs.Flat.{camera, rig, correspondence, block, blockNumbers}
-use Rattle.flat.specs.Answers.{Answer, answer, long}
+use Rattle.slices.specs.Answers.{Answer, answer, long}
 
 -- residual and Jacobian
 abbrev pub projectionNumbers : Projected → List Float

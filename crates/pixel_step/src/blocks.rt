@@ -1,6 +1,6 @@
 // The block of one point, and how the point moves. A block is 59 numbers.
 ghost use mathlib.Core.Path.{_≡_};
-ghost use Rattle.flat.specs.Answers as Answers;
+ghost use Rattle.slices.specs.Answers as Answers;
 ghost use Rattle.pixel_step.specs.Interface as Interface;
 use point_step::PointStep;
 
@@ -15,7 +15,7 @@ pub extern "C" fn pixel_step_linearize_point(
         (Interface.linearizePoint (now (rig .entry)) (now (correspondence .entry)) (now (out .entry))) ⌝ }
 {
     if !((rig.len() == 29) & (correspondence.len() == 8) & (out.len() == 59)) {
-        return flat::lengths();
+        return slices::lengths();
     }
     let r = flat::rig(rig);
     let camera1 = r.camera1;
@@ -29,7 +29,7 @@ pub extern "C" fn pixel_step_linearize_point(
     );
     let refusal = b.refusal;
     let values = flat::block_numbers(b);
-    flat::answer(refusal, &values, out)
+    slices::answer(refusal, &values, out)
 }
 
 // pose_step: 5; out: step 3, damping norm
@@ -44,13 +44,13 @@ pub extern "C" fn pixel_step_point_step_with_damping_norm(
         (Interface.pointStep (now (block .entry)) damping (now («pose_step» .entry)) (now (out .entry))) ⌝ }
 {
     if !((block.len() == 59) & (pose_step.len() == 5) & (out.len() == 4)) {
-        return flat::lengths();
+        return slices::lengths();
     }
     let b = flat::block(block);
-    let p = point_step::point_step_with_damping_norm(b, damping, flat::vector5(pose_step, 0));
+    let p = point_step::point_step_with_damping_norm(b, damping, slices::vector5(pose_step, 0));
     let refusal = p.refusal;
     let values = point_step_numbers(p);
-    flat::answer(refusal, &values, out)
+    slices::answer(refusal, &values, out)
 }
 
 // Step and damping norm

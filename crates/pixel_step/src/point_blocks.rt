@@ -1,6 +1,6 @@
 // The 3 by 3 point block. A matrix is 9 numbers, row by row; an inverse is 6, packed.
 ghost use mathlib.Core.Path.{_≡_};
-ghost use Rattle.flat.specs.Answers as Answers;
+ghost use Rattle.slices.specs.Answers as Answers;
 ghost use Rattle.pixel_step.specs.Interface as Interface;
 use point_block::LoneFactor;
 use point_block::PointBlockFactor;
@@ -12,12 +12,12 @@ pub extern "C" fn pixel_step_damping_diagonal(matrix: &[f64], out: &mut [f64]) -
     ensures { λ r. ⌜ Answers.Answered r (now (out .exit)) (Interface.dampingDiagonal (now (matrix .entry)) (now (out .entry))) ⌝ }
 {
     if !((matrix.len() == 9) & (out.len() == 3)) {
-        return flat::lengths();
+        return slices::lengths();
     }
-    let d = PointBlockFactor::damping_diagonal(flat::vector9(matrix, 0));
+    let d = PointBlockFactor::damping_diagonal(slices::vector9(matrix, 0));
     let refusal = d.refusal;
     let values = d.values;
-    flat::answer(refusal, &values, out)
+    slices::answer(refusal, &values, out)
 }
 
 // out: 9
@@ -26,12 +26,12 @@ pub extern "C" fn pixel_step_damped_matrix(matrix: &[f64], damping: f64, out: &m
     ensures { λ r. ⌜ Answers.Answered r (now (out .exit)) (Interface.dampedMatrix (now (matrix .entry)) damping (now (out .entry))) ⌝ }
 {
     if !((matrix.len() == 9) & (out.len() == 9)) {
-        return flat::lengths();
+        return slices::lengths();
     }
-    let d = PointBlockFactor::damped_matrix(flat::vector9(matrix, 0), damping);
+    let d = PointBlockFactor::damped_matrix(slices::vector9(matrix, 0), damping);
     let refusal = d.refusal;
     let values = d.matrix;
-    flat::answer(refusal, &values, out)
+    slices::answer(refusal, &values, out)
 }
 
 // matrix: damped already; out: 6
@@ -40,12 +40,12 @@ pub extern "C" fn pixel_step_factor_damped(matrix: &[f64], out: &mut [f64]) -> u
     ensures { λ r. ⌜ Answers.Answered r (now (out .exit)) (Interface.factorDamped (now (matrix .entry)) (now (out .entry))) ⌝ }
 {
     if !((matrix.len() == 9) & (out.len() == 6)) {
-        return flat::lengths();
+        return slices::lengths();
     }
-    let f = PointBlockFactor::factor_damped(flat::vector9(matrix, 0));
+    let f = PointBlockFactor::factor_damped(slices::vector9(matrix, 0));
     let refusal = f.refusal;
     let values = f.inverse;
-    flat::answer(refusal, &values, out)
+    slices::answer(refusal, &values, out)
 }
 
 // out: 6; damping is not tested
@@ -54,12 +54,12 @@ pub extern "C" fn pixel_step_factor(matrix: &[f64], damping: f64, out: &mut [f64
     ensures { λ r. ⌜ Answers.Answered r (now (out .exit)) (Interface.factor (now (matrix .entry)) damping (now (out .entry))) ⌝ }
 {
     if !((matrix.len() == 9) & (out.len() == 6)) {
-        return flat::lengths();
+        return slices::lengths();
     }
-    let f = PointBlockFactor::factor(flat::vector9(matrix, 0), damping);
+    let f = PointBlockFactor::factor(slices::vector9(matrix, 0), damping);
     let refusal = f.refusal;
     let values = f.inverse;
-    flat::answer(refusal, &values, out)
+    slices::answer(refusal, &values, out)
 }
 
 // The lone factor. out: inverse 6, rcond
@@ -68,12 +68,12 @@ pub extern "C" fn pixel_step_factor_new(matrix: &[f64], damping: f64, out: &mut 
     ensures { λ r. ⌜ Answers.Answered r (now (out .exit)) (Interface.loneFactor (now (matrix .entry)) damping (now (out .entry))) ⌝ }
 {
     if !((matrix.len() == 9) & (out.len() == 7)) {
-        return flat::lengths();
+        return slices::lengths();
     }
-    let f = PointBlockFactor::new(flat::vector9(matrix, 0), damping);
+    let f = PointBlockFactor::new(slices::vector9(matrix, 0), damping);
     let refusal = f.refusal;
     let values = factor_numbers(f);
-    flat::answer(refusal, &values, out)
+    slices::answer(refusal, &values, out)
 }
 
 // inverse: 6; x: 3; out: 3
@@ -82,14 +82,14 @@ pub extern "C" fn pixel_step_factor_solve(inverse: &[f64], x: &[f64], out: &mut 
     ensures { λ r. ⌜ Answers.Answered r (now (out .exit)) (Interface.factorSolve (now (inverse .entry)) (now (x .entry)) (now (out .entry))) ⌝ }
 {
     if !((inverse.len() == 6) & (x.len() == 3) & (out.len() == 3)) {
-        return flat::lengths();
+        return slices::lengths();
     }
     let factor = PointBlockFactor {
-        inverse: flat::vector6(inverse, 0),
+        inverse: slices::vector6(inverse, 0),
         refusal: Refusal::none(),
     };
-    let values = factor.solve(flat::vector3(x, 0));
-    flat::answer(Refusal::none(), &values, out)
+    let values = factor.solve(slices::vector3(x, 0));
+    slices::answer(Refusal::none(), &values, out)
 }
 
 // inverse: 6; matrix: 9; out: 1
@@ -103,14 +103,14 @@ pub extern "C" fn pixel_step_reciprocal_condition_number(
         (Interface.reciprocalConditionNumber (now (inverse .entry)) (now (matrix .entry)) (now (out .entry))) ⌝ }
 {
     if !((inverse.len() == 6) & (matrix.len() == 9) & (out.len() == 1)) {
-        return flat::lengths();
+        return slices::lengths();
     }
     let factor = PointBlockFactor {
-        inverse: flat::vector6(inverse, 0),
+        inverse: slices::vector6(inverse, 0),
         refusal: Refusal::none(),
     };
-    let values = [factor.reciprocal_condition_number(flat::vector9(matrix, 0))];
-    flat::answer(Refusal::none(), &values, out)
+    let values = [factor.reciprocal_condition_number(slices::vector9(matrix, 0))];
+    slices::answer(Refusal::none(), &values, out)
 }
 
 // Inverse and rcond

@@ -1,6 +1,6 @@
 // The projection.
 ghost use mathlib.Core.Path.{_≡_};
-ghost use Rattle.flat.specs.Answers as Answers;
+ghost use Rattle.slices.specs.Answers as Answers;
 ghost use Rattle.pixel_step.specs.Interface as Interface;
 use projection::Projected;
 
@@ -16,16 +16,16 @@ pub extern "C" fn pixel_step_pixel_projection(
         (Interface.pixelProjection (now (camera .entry)) (now (observation .entry)) (now (point .entry)) (now (out .entry))) ⌝ }
 {
     if !((camera.len() == 5) & (observation.len() == 2) & (point.len() == 3) & (out.len() == 8)) {
-        return flat::lengths();
+        return slices::lengths();
     }
     let p = projection::pixel_projection(
         flat::camera(camera, 0),
-        flat::vector2(observation, 0),
-        flat::vector3(point, 0),
+        slices::vector2(observation, 0),
+        slices::vector3(point, 0),
     );
     let refusal = p.refusal;
     let values = projection_numbers(p);
-    flat::answer(refusal, &values, out)
+    slices::answer(refusal, &values, out)
 }
 
 // Residual and Jacobian

@@ -1,5 +1,5 @@
 // The 5 by 5 solve.
-ghost use Rattle.flat.specs.Answers as Answers;
+ghost use Rattle.slices.specs.Answers as Answers;
 ghost use Rattle.pixel_step.specs.Interface as Interface;
 
 // a: 25 numbers, row by row; b: 5; out: 5
@@ -9,10 +9,10 @@ pub extern "C" fn pixel_step_solve_positive_definite(a: &[f64], b: &[f64], out: 
         (Interface.solvePositiveDefinite (now (a .entry)) (now (b .entry)) (now (out .entry))) ⌝ }
 {
     if !((a.len() == 25) & (b.len() == 5) & (out.len() == 5)) {
-        return flat::lengths();
+        return slices::lengths();
     }
-    let s = solver::solve_positive_definite(flat::vector25(a, 0), flat::vector5(b, 0));
+    let s = solver::solve_positive_definite(slices::vector25(a, 0), slices::vector5(b, 0));
     let refusal = s.refusal;
     let values = s.x;
-    flat::answer(refusal, &values, out)
+    slices::answer(refusal, &values, out)
 }

@@ -14,7 +14,7 @@ use Rattle.optimizer.specs.Step as Step
 use Rattle.checks.specs.declared.Rig.{Rig}
 use Rattle.optimizer.specs.declared.StepResult.{StepResult}
 use Rattle.flat.specs.Flat.{rig, systemNumbers, systemCounts}
-use Rattle.flat.specs.Answers.{code, lengthsCode, stored, long}
+use Rattle.slices.specs.Answers.{code, lengthsCode, stored, long}
 use Rattle.step_calls.specs.Calls.{change, Changed, step, Stepped, stepNumbers, stepCount}
 
 -- row 1

@@ -16,7 +16,7 @@ use Rattle.optimizer.specs.Step as Step
 use Rattle.optimizer.specs.declared.StepResult.{StepResult}
 use Rattle.number.specs.Vectors.{_!_}
 use Rattle.flat.specs.Flat.{block, system, systemNumbers, systemCounts, flag}
-use Rattle.flat.specs.Answers.{code, lengthsCode, stored, Answer, answer, long}
+use Rattle.slices.specs.Answers.{code, lengthsCode, stored, Answer, answer, long}
 
 -- ---- calls on a system: 45 numbers, and the weak count, the block count and the flag
 

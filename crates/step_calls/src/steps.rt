@@ -2,7 +2,7 @@
 ghost use mathlib.Core.Path.{_≡_};
 ghost use lib.ListN.{length};
 ghost use Rattle.checks.specs.Problem as Problem;
-ghost use Rattle.flat.specs.Answers as Answers;
+ghost use Rattle.slices.specs.Answers as Answers;
 ghost use Rattle.flat.specs.Flat as Flat;
 ghost use Rattle.step_calls.specs.Calls as Calls;
 use optimizer::StepResult;
@@ -25,7 +25,7 @@ pub fn step<'a>(
         (now (rig .entry)) (now (room .entry)) (now (out .entry)) (now (weak .entry))) ⌝ }
 {
     if !((rig.len() == 29) & (out.len() == 12) & (weak.len() == 1)) {
-        return flat::lengths();
+        return slices::lengths();
     }
     let r = flat::rig(rig);
     let done = optimizer::step(points, view1, view2, inverse_deviations, r, damping, room);
@@ -37,10 +37,10 @@ pub fn limit_pose_step(x: &[f64], out: &mut [f64]) -> u64
     ensures { λ r. ⌜ Answers.Answered r (now (out .exit)) (Calls.limitPoseStep (now (x .entry)) (now (out .entry))) ⌝ }
 {
     if !((x.len() == 5) & (out.len() == 5)) {
-        return flat::lengths();
+        return slices::lengths();
     }
-    let values = pose_step::limit_pose_step(flat::vector5(x, 0));
-    flat::answer(Refusal::none(), &values, out)
+    let values = pose_step::limit_pose_step(slices::vector5(x, 0));
+    slices::answer(Refusal::none(), &values, out)
 }
 
 // Stores numbers and weak count where nothing was refused, and answers the refusal's code.
@@ -52,12 +52,12 @@ fn answer(done: StepResult, out: &mut [f64], weak: &mut [u16]) -> u64
 {
     let refusal = done.refusal;
     if !refusal.is_none() {
-        return flat::code(refusal);
+        return slices::code(refusal);
     }
     let values = step_numbers(done);
-    flat::store(&values, out);
+    slices::store(&values, out);
     weak[0] = done.weak_point_count;
-    flat::code(refusal)
+    slices::code(refusal)
 }
 
 fn step_numbers(s: StepResult) -> [f64; 12]

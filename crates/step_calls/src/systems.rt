@@ -1,7 +1,7 @@
 // The reduced system: 45 numbers, and beside them the weak count, the block count and the flag.
 ghost use mathlib.Core.Path.{_≡_};
 ghost use lib.ListN.{length};
-ghost use Rattle.flat.specs.Answers as Answers;
+ghost use Rattle.slices.specs.Answers as Answers;
 ghost use Rattle.flat.specs.Flat as Flat;
 ghost use Rattle.step_calls.specs.Calls as Calls;
 use refusal::Refusal;
@@ -12,7 +12,7 @@ pub fn system_new(system: &mut [f64], counts: &mut [u16]) -> u64
         (Calls.newSystem (now (system .entry)) (now (counts .entry))) ⌝ }
 {
     if !((system.len() == 45) & (counts.len() == 3)) {
-        return flat::lengths();
+        return slices::lengths();
     }
     answer(Refusal::none(), ReducedSystem::new(), system, counts)
 }
@@ -22,7 +22,7 @@ pub fn system_add(system: &mut [f64], counts: &mut [u16], block: &[f64], damping
         (Calls.add (now (system .entry)) (now (counts .entry)) (now (block .entry)) damping) ⌝ }
 {
     if !((system.len() == 45) & (counts.len() == 3) & (block.len() == 59)) {
-        return flat::lengths();
+        return slices::lengths();
     }
     let s = flat::system(system, counts);
     let added = s.add(flat::block(block), damping);
@@ -36,7 +36,7 @@ pub fn system_finish_damping(system: &mut [f64], counts: &mut [u16], damping: f6
         (Calls.finishDamping (now (system .entry)) (now (counts .entry)) damping) ⌝ }
 {
     if !((system.len() == 45) & (counts.len() == 3)) {
-        return flat::lengths();
+        return slices::lengths();
     }
     let s = flat::system(system, counts);
     let finished = s.finish_damping(damping);
@@ -51,11 +51,11 @@ pub fn system_is_valid(system: &[f64], counts: &[u16], out: &mut [u16]) -> u64
         (Calls.isValid (now (system .entry)) (now (counts .entry)) (now (out .entry))) ⌝ }
 {
     if !((system.len() == 45) & (counts.len() == 3) & (out.len() == 1)) {
-        return flat::lengths();
+        return slices::lengths();
     }
     let s = flat::system(system, counts);
     out[0] = flag(s.is_valid());
-    flat::code(Refusal::none())
+    slices::code(Refusal::none())
 }
 
 // out: 1
@@ -64,11 +64,11 @@ pub fn system_scaled_gradient_inf_norm(system: &[f64], counts: &[u16], out: &mut
         (Calls.gradientInfNorm (now (system .entry)) (now (counts .entry)) (now (out .entry))) ⌝ }
 {
     if !((system.len() == 45) & (counts.len() == 3) & (out.len() == 1)) {
-        return flat::lengths();
+        return slices::lengths();
     }
     let s = flat::system(system, counts);
     let values = [s.scaled_gradient_inf_norm()];
-    flat::answer(Refusal::none(), &values, out)
+    slices::answer(Refusal::none(), &values, out)
 }
 
 // step: 5; out: 1
@@ -84,13 +84,13 @@ pub fn system_predicted_reduction(
         (Calls.predictedReduction (now (system .entry)) (now (counts .entry)) (now (step .entry)) damping «point_damping_norm» (now (out .entry))) ⌝ }
 {
     if !((system.len() == 45) & (counts.len() == 3) & (step.len() == 5) & (out.len() == 1)) {
-        return flat::lengths();
+        return slices::lengths();
     }
     let s = flat::system(system, counts);
-    let p = s.predicted_reduction(flat::vector5(step, 0), damping, point_damping_norm);
+    let p = s.predicted_reduction(slices::vector5(step, 0), damping, point_damping_norm);
     let refusal = p.refusal;
     let values = [p.reduction];
-    flat::answer(refusal, &values, out)
+    slices::answer(refusal, &values, out)
 }
 
 // Stores the system where nothing was refused, and answers the refusal's code.
@@ -101,14 +101,14 @@ fn answer(refusal: Refusal, next: ReducedSystem, system: &mut [f64], counts: &mu
         × (now (counts .exit) ≡ Answers.stored refusal (Flat.systemCounts next) (now (counts .entry))) ⌝ }
 {
     if !refusal.is_none() {
-        return flat::code(refusal);
+        return slices::code(refusal);
     }
     let values = flat::system_numbers(next);
-    flat::store(&values, system);
+    slices::store(&values, system);
     counts[0] = next.weak_point_count;
     counts[1] = next.block_count;
     counts[2] = flag(next.valid);
-    flat::code(refusal)
+    slices::code(refusal)
 }
 
 fn flag(b: bool) -> u16

@@ -7,7 +7,7 @@ use Rattle.linearization.specs.declared.linearize.LocalLinearization.{LocalLine
 use Rattle.checks.specs.declared.Rig.{Rig}
 use Rattle.flat.specs.Flat.{rig, blockNumbers}
 use Rattle.pixel_step.specs.Interface.{linearizePoint}
-use Rattle.flat.proofs.Laws.{too-short, answers, three-fit}
+use Rattle.slices.proofs.Laws.{too-short, answers, three-fit}
 use borrow.Author.Needs.{needs}
 use Rattle.pixel_step.proofs.blocks.pixel_step_linearize_point.Statement.{statement}
 use Rattle.pixel_step.proofs.blocks.pixel_step_linearize_point.Tie as tie

@@ -8,7 +8,7 @@ use Rattle.linearization.specs.declared.linearize.LocalLinearization.{LocalLine
 use Rattle.point_step.specs.declared.PointStep as Stepped
 use Rattle.flat.specs.Flat.{block}
 use Rattle.pixel_step.specs.Interface.{pointStep, pointStepNumbers}
-use Rattle.flat.proofs.Laws.{whole, too-short, answers, three-fit}
+use Rattle.slices.proofs.Laws.{whole, too-short, answers, three-fit}
 use borrow.Author.Needs.{needs}
 use Rattle.pixel_step.proofs.blocks.pixel_step_point_step_with_damping_norm.Statement.{statement}
 use Rattle.pixel_step.proofs.blocks.pixel_step_point_step_with_damping_norm.Tie as tie

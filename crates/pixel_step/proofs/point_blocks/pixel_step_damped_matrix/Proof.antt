@@ -6,7 +6,7 @@ use lib.Ieee.{Float}
 use Rattle.point_block.specs.Damping as Damping
 use Rattle.point_block.specs.declared.DampedMatrix.{DampedMatrix}
 use Rattle.pixel_step.specs.Interface.{dampedMatrix}
-use Rattle.flat.proofs.Laws.{whole, too-short, answers, two-fit}
+use Rattle.slices.proofs.Laws.{whole, too-short, answers, two-fit}
 use borrow.Author.Needs.{needs}
 use Rattle.pixel_step.proofs.point_blocks.pixel_step_damped_matrix.Statement.{statement}
 use Rattle.pixel_step.proofs.point_blocks.pixel_step_damped_matrix.Tie as tie

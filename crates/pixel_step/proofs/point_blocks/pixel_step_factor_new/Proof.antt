@@ -6,7 +6,7 @@ use lib.Ieee.{Float}
 use Rattle.point_block.specs.Lone as Lone
 use Rattle.point_block.specs.declared.LoneFactor.{LoneFactor}
 use Rattle.pixel_step.specs.Interface.{loneFactor, factorNumbers}
-use Rattle.flat.proofs.Laws.{whole, too-short, answers, two-fit}
+use Rattle.slices.proofs.Laws.{whole, too-short, answers, two-fit}
 use borrow.Author.Needs.{needs}
 use Rattle.pixel_step.proofs.point_blocks.pixel_step_factor_new.Statement.{statement}
 use Rattle.pixel_step.proofs.point_blocks.pixel_step_factor_new.Tie as tie

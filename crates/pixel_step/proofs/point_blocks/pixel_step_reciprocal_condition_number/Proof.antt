@@ -5,7 +5,7 @@ use lib.ListN.{length}
 use lib.Ieee.{Float}
 use Rattle.point_block.specs.Condition as Condition
 use Rattle.pixel_step.specs.Interface.{reciprocalConditionNumber}
-use Rattle.flat.proofs.Laws.{whole, too-short, answers, three-fit}
+use Rattle.slices.proofs.Laws.{whole, too-short, answers, three-fit}
 use borrow.Author.Needs.{needs}
 use Rattle.pixel_step.proofs.point_blocks.pixel_step_reciprocal_condition_number.Statement.{
   statement,

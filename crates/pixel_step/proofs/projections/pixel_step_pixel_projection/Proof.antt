@@ -8,7 +8,8 @@ use Rattle.projection.specs.declared.Projected.{Projected}
 use Rattle.projection.specs.declared.PinholeCamera.{PinholeCamera}
 use Rattle.flat.specs.Flat.{camera}
 use Rattle.pixel_step.specs.Interface.{pixelProjection, projectionNumbers}
-use Rattle.flat.proofs.Laws.{whole, whole-camera, too-short, answers, four-fit}
+use Rattle.slices.proofs.Laws.{whole, too-short, answers, four-fit}
+use Rattle.flat.proofs.Laws.{whole-camera}
 use borrow.Author.Needs.{needs}
 use Rattle.pixel_step.proofs.projections.pixel_step_pixel_projection.Statement.{statement}
 use Rattle.pixel_step.proofs.projections.pixel_step_pixel_projection.Tie as tie

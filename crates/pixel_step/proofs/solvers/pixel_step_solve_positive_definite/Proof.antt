@@ -6,7 +6,7 @@ use lib.Ieee.{Float}
 use Rattle.solver.specs.Solver as Solver
 use Rattle.solver.specs.declared.Solved.{Solved}
 use Rattle.pixel_step.specs.Interface.{solvePositiveDefinite}
-use Rattle.flat.proofs.Laws.{whole, too-short, answers, three-fit}
+use Rattle.slices.proofs.Laws.{whole, too-short, answers, three-fit}
 use borrow.Author.Needs.{needs}
 use Rattle.pixel_step.proofs.solvers.pixel_step_solve_positive_definite.Statement.{
   statement,

@@ -1,7 +1,7 @@
 -- `step_calls::steps::answer` meets its contract. Assumes nothing.
 use mathlib.Core.Path.{_≡_, sym, _∙_}
 use lib.ListN.{length}
-use Rattle.flat.proofs.Laws.{stored-none, stored-some}
+use Rattle.slices.proofs.Laws.{stored-none, stored-some}
 use Rattle.step_calls.proofs.Laws.{one-set}
 use borrow.Author.Needs.{needs}
 use Rattle.step_calls.proofs.steps.answer.Statement.{statement}

@@ -6,7 +6,7 @@ use native.Mathlib.Omega.{arith}
 use lib.ListN.{length, set}
 use lib.Seq.{lt-length-set}
 use Rattle.flat.specs.Flat.{systemCounts}
-use Rattle.flat.proofs.Laws.{stored-none, stored-some}
+use Rattle.slices.proofs.Laws.{stored-none, stored-some}
 use Rattle.step_calls.proofs.Laws.{three-set}
 use borrow.Author.Needs.{needs}
 use Rattle.step_calls.proofs.systems.answer.Statement.{statement}

@@ -7,7 +7,7 @@ use Rattle.schur.specs.declared.system.Added.{Added}
 use Rattle.schur.specs.declared.system.ReducedSystem.{ReducedSystem}
 use Rattle.flat.specs.Flat.{system}
 use Rattle.step_calls.specs.Calls.{add}
-use Rattle.flat.proofs.Laws.{three-fit}
+use Rattle.slices.proofs.Laws.{three-fit}
 use Rattle.step_calls.proofs.Laws.{too-short-system, changes}
 use borrow.Author.Needs.{needs}
 use Rattle.step_calls.proofs.systems.system_add.Statement.{statement}

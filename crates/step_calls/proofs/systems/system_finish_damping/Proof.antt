@@ -5,7 +5,7 @@ use Rattle.schur.specs.Model as Model
 use Rattle.schur.specs.declared.system.Added.{Added}
 use Rattle.schur.specs.declared.system.ReducedSystem.{ReducedSystem}
 use Rattle.step_calls.specs.Calls.{finishDamping}
-use Rattle.flat.proofs.Laws.{two-fit}
+use Rattle.slices.proofs.Laws.{two-fit}
 use Rattle.step_calls.proofs.Laws.{too-short-system, changes}
 use borrow.Author.Needs.{needs}
 use Rattle.step_calls.proofs.systems.system_finish_damping.Statement.{statement}

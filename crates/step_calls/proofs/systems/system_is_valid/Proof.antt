@@ -7,10 +7,10 @@ use native.Mathlib.Omega.{arith}
 use lib.ListN.{length}
 use Rattle.schur.specs.Model as Model
 use Rattle.schur.specs.declared.system.ReducedSystem.{ReducedSystem}
-use Rattle.flat.specs.Answers.{code}
+use Rattle.slices.specs.Answers.{code}
 use Rattle.step_calls.specs.Calls.{isValid}
 use Rattle.flat.specs.Flat.{flag}
-use Rattle.flat.proofs.Laws.{too-short, answers-none, three-fit}
+use Rattle.slices.proofs.Laws.{too-short, answers-none, three-fit}
 use Rattle.step_calls.proofs.Laws.{one-set}
 use borrow.Author.Needs.{needs}
 use Rattle.step_calls.proofs.systems.system_is_valid.Statement.{statement}

@@ -2,7 +2,7 @@
 use mathlib.Core.Path.{_≡_}
 use lib.ListN.{length}
 use Rattle.step_calls.specs.Calls.{newSystem}
-use Rattle.flat.proofs.Laws.{two-fit}
+use Rattle.slices.proofs.Laws.{two-fit}
 use Rattle.step_calls.proofs.Laws.{too-short-system, changes}
 use borrow.Author.Needs.{needs}
 use Rattle.step_calls.proofs.systems.system_new.Statement.{statement}

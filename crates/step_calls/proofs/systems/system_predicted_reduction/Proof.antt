@@ -8,7 +8,7 @@ use Rattle.schur.specs.declared.system.ReducedSystem.{ReducedSystem}
 use Rattle.schur.specs.declared.system.Predicted.{Predicted}
 use Rattle.flat.specs.Flat.{system}
 use Rattle.step_calls.specs.Calls.{predictedReduction}
-use Rattle.flat.proofs.Laws.{whole, too-short, answers, four-fit}
+use Rattle.slices.proofs.Laws.{whole, too-short, answers, four-fit}
 use borrow.Author.Needs.{needs}
 use Rattle.step_calls.proofs.systems.system_predicted_reduction.Statement.{statement}
 use Rattle.step_calls.proofs.systems.system_predicted_reduction.Tie as tie

@@ -6,7 +6,7 @@ use lib.Ieee.{Float}
 use Rattle.schur.specs.Model as Model
 use Rattle.schur.specs.declared.system.ReducedSystem.{ReducedSystem}
 use Rattle.step_calls.specs.Calls.{gradientInfNorm}
-use Rattle.flat.proofs.Laws.{too-short, answers, three-fit}
+use Rattle.slices.proofs.Laws.{too-short, answers, three-fit}
 use borrow.Author.Needs.{needs}
 use Rattle.step_calls.proofs.systems.system_scaled_gradient_inf_norm.Statement.{statement}
 use Rattle.step_calls.proofs.systems.system_scaled_gradient_inf_norm.Tie as tie

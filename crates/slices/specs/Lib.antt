@@ -1,0 +1,3 @@
+-- Numbers of lent slices, and answers stored in them.
+pub mod Slices
+pub mod Answers
