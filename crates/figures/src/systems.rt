@@ -1,7 +1,7 @@
 // The figures of the block maker and of the system: document 01's sample plate, and its rows.
 use linearization::LocalLinearization;
 use projection::PinholeCamera;
-use schur::ReducedSystem;
+use reduced_system::ReducedSystem;
 use views::Correspondence;
 use views::Pose;
 
@@ -53,7 +53,7 @@ fn point(system: ReducedSystem, index: u16, x: f64, y: f64, off: f64) -> Reduced
     show::count(index as u64);
     show::text(&[b' ', lines::letter(block, 0.0)]);
     show::end();
-    let added = system.add(block, 0.0);
+    let added = schur::add(system, block, 0.0);
     added.system
 }
 
@@ -86,7 +86,7 @@ fn counted(name: &[u8], weak: u16, blocks: u16, damping: f64) {
     let mut system = ReducedSystem::new();
     system.weak_point_count = weak;
     system.block_count = blocks;
-    let added = system.add(seen(1.0, 0.0, 0.0), damping);
+    let added = schur::add(system, seen(1.0, 0.0, 0.0), damping);
     let next = added.system;
     show::text(name);
     show::text(b":");

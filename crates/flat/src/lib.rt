@@ -7,8 +7,8 @@ ghost use Rattle.flat.specs.Flat as Flat;
 use checks::Rig;
 use linearization::LocalLinearization;
 use projection::PinholeCamera;
+use reduced_system::ReducedSystem;
 use refusal::Refusal;
-use schur::ReducedSystem;
 use views::Correspondence;
 use views::Pose;
 

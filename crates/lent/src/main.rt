@@ -4,8 +4,8 @@ ghost use mathlib.Core.Path.{_≡_};
 ghost use Rattle.schur.specs.System as System;
 use linearization::LocalLinearization;
 use projection::PinholeCamera;
-use schur::Added;
-use schur::ReducedSystem;
+use reduced_system::Added;
+use reduced_system::ReducedSystem;
 use views::Correspondence;
 use views::Pose;
 
@@ -61,7 +61,7 @@ fn added(both: Both, local: LocalLinearization, damping: f64) -> Both {
     let lent = both.lent;
     let by_value = both.by_value;
     let one = added_in_place(lent, local, damping);
-    let two = by_value.add(local, damping);
+    let two = schur::add(by_value, local, damping);
     let refusal1 = one.refusal;
     let refusal2 = two.refusal;
     pair(b"refusal", refusal1.number as u64, refusal2.number as u64);

@@ -9,8 +9,8 @@ use Rattle.refusal.specs.Refused.{isNone}
 use Rattle.refusal.specs.declared.Refusal.{Refusal}
 use Rattle.point_block.specs.Lone.{loneFactor}
 use Rattle.linearization.specs.declared.linearize.LocalLinearization.{LocalLinearization}
-use Rattle.schur.specs.Model.{isValid}
-use Rattle.schur.specs.declared.system.ReducedSystem.{ReducedSystem}
+use Rattle.reduced_system.specs.Model.{isValid}
+use Rattle.reduced_system.specs.declared.ReducedSystem.{ReducedSystem}
 use Rattle.hex.specs.Hex.{digits}
 use Rattle.text.specs.Text.{space, lineFeed, decimal}
 

@@ -4,8 +4,8 @@ ghost use Rattle.lines.specs.Lines as Lines;
 ghost use Rattle.text.specs.Text as Text;
 use linearization::LocalLinearization;
 use point_block::PointBlockFactor;
+use reduced_system::ReducedSystem;
 use refusal::Refusal;
-use schur::ReducedSystem;
 
 // `run`, the number of points, the damping's bits
 pub fn put_run(out: &mut [u8], at: usize, n: u32, damping: f64) -> usize

@@ -12,15 +12,15 @@ use Rattle.number.specs.Binary64.{_⊕_, zero as zero·}
 use Rattle.number.specs.Vectors.{_!_}
 use Rattle.refusal.specs.Refused.{isNone}
 use Rattle.point_block.specs.Lone.{factor, goodDamping}
-use Rattle.schur.specs.System.{newSystem, add}
-use Rattle.schur.specs.Model.{finishDamping}
+use Rattle.schur.specs.System.{add}
+use Rattle.reduced_system.specs.Model.{newSystem, finishDamping}
 use Rattle.linearization.specs.Linearize.{pointTerms}
 use Rattle.point_step.specs.PointStep.{stepOf, stepped, notStepped, stepOfTerms, pointStep}
 use Rattle.linearization.specs.declared.linearize.LocalLinearization.{LocalLinearization}
 use Rattle.views.specs.declared.Correspondence.{Correspondence}
 use Rattle.point_step.specs.declared.PointStep.{PointStep}
-use Rattle.schur.specs.declared.system.ReducedSystem.{ReducedSystem}
-use Rattle.schur.specs.declared.system.Added.{Added}
+use Rattle.reduced_system.specs.declared.ReducedSystem.{ReducedSystem}
+use Rattle.reduced_system.specs.declared.Added.{Added}
 use Rattle.checks.specs.Problem.{Problem, count, correspondenceAt}
 use Rattle.optimizer.specs.Step.{blockOf, systemTo, reducedSystem, pointStepOf, stepAt, stepsTo, squaredNorm, sumsTo}
 

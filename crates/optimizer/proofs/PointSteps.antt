@@ -16,13 +16,12 @@ use Rattle.point_block.specs.Lone.{goodDamping}
 use Rattle.point_block.proofs.Laws.{lone-factors}
 use Rattle.linearization.specs.Linearize.{pointTerms}
 use Rattle.pose_model.specs.PoseModel.{dampedHessian}
-use Rattle.schur.specs.Model.{withHessian, finishDamping, isValid}
+use Rattle.reduced_system.specs.Model.{newSystem, withHessian, finishDamping, isValid}
 use Rattle.point_step.specs.PointStep.{stepped, stepOfTerms, pointStep}
-use Rattle.schur.specs.System.{newSystem}
 use Rattle.schur.specs.Claim.{WeakCount}
 use Rattle.schur.specs.Calls.{Inputs, Call, atDamping, after, factors, smallRcond, atZero, blocksIn, all, filter}
 use Rattle.linearization.specs.declared.linearize.LocalLinearization.{LocalLinearization}
-use Rattle.schur.specs.declared.system.ReducedSystem.{ReducedSystem}
+use Rattle.reduced_system.specs.declared.ReducedSystem.{ReducedSystem}
 use Rattle.schur.proofs.Claim.{claim}
 use Rattle.checks.specs.Problem.{Problem, count, correspondenceAt}
 use Rattle.checks.proofs.Passed.{both-hold}

@@ -13,8 +13,8 @@ use Rattle.refusal.specs.Refused.{of, none, isNone}
 use Rattle.refusal.specs.declared.Refusal.{Refusal}
 use Rattle.solver.specs.Solver.{solvePositiveDefinite}
 use Rattle.solver.specs.declared.Solved.{Solved}
-use Rattle.schur.specs.Model.{isValid}
-use Rattle.schur.specs.declared.system.ReducedSystem.{ReducedSystem}
+use Rattle.reduced_system.specs.Model.{isValid}
+use Rattle.reduced_system.specs.declared.ReducedSystem.{ReducedSystem}
 use Rattle.optimizer.specs.declared.StepResult.{StepResult}
 use Rattle.optimizer.specs.declared.point_steps.Sums.{Sums}
 use Rattle.checks.specs.Problem.{Problem, count}

@@ -22,11 +22,11 @@ use Rattle.checks.specs.Checks as Checks
 use Rattle.checks.specs.declared.Rig.{Rig}
 use Rattle.solver.specs.Solver.{solvePositiveDefinite}
 use Rattle.solver.specs.declared.Solved.{Solved}
-use Rattle.schur.specs.System.{newSystem, add}
-use Rattle.schur.specs.Model.{finishDamping, isValid, gradientInfNorm, predictedReduction}
+use Rattle.schur.specs.System.{add}
+use Rattle.reduced_system.specs.Model.{newSystem, finishDamping, isValid, gradientInfNorm, predictedReduction}
 use Rattle.point_step.specs.PointStep.{pointStep}
 use Rattle.pose_step.specs.PoseStep.{squared, poseStep}
-use Rattle.schur.specs.declared.system.ReducedSystem.{ReducedSystem}
+use Rattle.reduced_system.specs.declared.ReducedSystem.{ReducedSystem}
 use Rattle.point_step.specs.declared.PointStep.{PointStep}
 use Rattle.optimizer.specs.declared.StepResult.{StepResult}
 use Rattle.optimizer.specs.declared.point_steps.Sums.{Sums}

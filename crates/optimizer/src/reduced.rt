@@ -10,8 +10,8 @@ ghost use Rattle.checks.specs.Problem as Problem;
 ghost use Rattle.optimizer.specs.Step as Steps;
 use checks::Rig;
 use linearization::LocalLinearization;
+use reduced_system::ReducedSystem;
 use refusal::Refusal;
-use schur::ReducedSystem;
 use views::Correspondence;
 
 // A problem's system after the pose damping; beside a refusal every number is +0.
@@ -86,7 +86,7 @@ pub(crate) fn damped_system(
             i as u32,
         );
         let local = block_of(rig, correspondence);
-        let added = system.add(local, damping);
+        let added = schur::add(system, local, damping);
         system = added.system;
     }
     let finished = system.finish_damping(damping);

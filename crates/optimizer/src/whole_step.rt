@@ -12,8 +12,8 @@ use crate::StepResult;
 use crate::point_steps;
 use crate::reduced;
 use checks::Rig;
+use reduced_system::ReducedSystem;
 use refusal::Refusal;
-use schur::ReducedSystem;
 
 // One step. Tests rows 1 to 11; refused, it leaves the room as it was.
 pub fn step<'a>(

@@ -9,7 +9,7 @@ use lib.Ieee.{isNan}
 use Rattle.refusal.specs.Refused.{isNone}
 use Rattle.refusal.specs.First.{orElse}
 use Rattle.refusal.specs.declared.Refusal.{Refusal}
-use Rattle.schur.specs.declared.system.ReducedSystem.{ReducedSystem}
+use Rattle.reduced_system.specs.declared.ReducedSystem.{ReducedSystem}
 use Rattle.checks.specs.Problem.{Problem}
 use Rattle.checks.specs.Checks as Checks
 use Rattle.optimizer.specs.Step.{blockAt, reducedSystem}

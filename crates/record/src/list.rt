@@ -9,7 +9,7 @@ ghost use Rattle.record.specs.Run as Run;
 ghost use Rattle.text.specs.Text as Text;
 use crate::run;
 use checks::Rig;
-use schur::ReducedSystem;
+use reduced_system::ReducedSystem;
 
 // No list has more bytes.
 pub const MAX_LIST: usize = 4057;

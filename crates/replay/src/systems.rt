@@ -7,8 +7,8 @@ use crate::files::ROOM;
 use crate::outcomes::Outcome;
 use crate::projections;
 use linearization::LocalLinearization;
+use reduced_system::ReducedSystem;
 use refusal::Refusal;
-use schur::ReducedSystem;
 use views::Correspondence;
 use views::Pose;
 
@@ -73,7 +73,7 @@ pub fn system_new(case: Case) -> Outcome {
 }
 
 pub fn system_add(case: Case) -> Outcome {
-    let added = system(case).add(block(case, 48), case.number(107));
+    let added = schur::add(system(case), block(case, 48), case.number(107));
     let next = added.system;
     left(case, added.refusal, next)
 }

@@ -16,12 +16,11 @@ use Rattle.point_block.specs.Condition.{reciprocalConditionNumber}
 use Rattle.point_block.specs.Lone.{factor, goodDamping}
 use Rattle.point_block.specs.declared.PointBlockFactor.{PointBlockFactor}
 use Rattle.linearization.specs.declared.linearize.LocalLinearization.{LocalLinearization}
-use Rattle.schur.specs.declared.system.ReducedSystem.{ReducedSystem}
-use Rattle.schur.specs.declared.system.Eliminated.{Eliminated}
+use Rattle.reduced_system.specs.declared.ReducedSystem.{ReducedSystem}
+use Rattle.schur.specs.declared.block.Change.{Change}
 use Rattle.elimination.specs.Elimination.{reducedHessian, reducedGradient, pointReduction}
 use Rattle.gradient_norm.specs.GradientNorm.{pointGradientNorm}
-use Rattle.pose_model.specs.PoseModel.{dampedHessian, sum5, diagonal5}
-use Rattle.schur.specs.Model.{withHessian, finishDamping, reductionOf, predictedReduction}
+use Rattle.pose_model.specs.PoseModel.{sum5, diagonal5}
 use Rattle.schur.specs.System.{maxBlocks, raised, notEliminated, eliminated, elimination, takenWith, taken, add}
 
 pub below : (m n : ℕ) → not (ltb m n) ≡ false → m < n
@@ -31,7 +30,7 @@ pub at-most : (m n : ℕ) → not (leb m n) ≡ false → m ≤ n
 at-most m n h = leb→le m n (rw (not-false (leb m n) h) tt)
 
 -- what every block brings
-pub takes-with : (s : ReducedSystem) (b : LocalLinearization) (e : Eliminated) (g d x : List Float) (k m : Float) → g ≡ sum5 (s .«full_pose_gradient») (b .«pose_gradient»)
+pub takes-with : (s : ReducedSystem) (b : LocalLinearization) (e : Change) (g d x : List Float) (k m : Float) → g ≡ sum5 (s .«full_pose_gradient») (b .«pose_gradient»)
     → x ≡ diagonal5 (b .«pose_hessian») → d ≡ sum5 (s .«pose_diagonal») x → k ≡ pointGradientNorm (b .«point_gradient») (b .«point_hessian») → m ≡ max (s .«scaled_point_gradient_inf_norm») k → record {
       hessian = e .hessian;
       gradient = e .gradient;
@@ -65,11 +64,11 @@ module _ (s : ReducedSystem) (b : LocalLinearization) (damping : Float) where
     eliminated-elsewhere z = rw (← eh, ← eg, ← ex, z) refl
 
   module _ (f : PointBlockFactor) (n : Bool) (e : f ≡ factor (b .«point_hessian») damping) (t : n ≡ isNone (f .refusal)) where
-    pub eliminates : (r : Eliminated) → n ≡ true → r ≡ eliminated s b damping (f .inverse) → r ≡ elimination s b damping
+    pub eliminates : (r : Change) → n ≡ true → r ≡ eliminated s b damping (f .inverse) → r ≡ elimination s b damping
     unfolding elimination
     eliminates r p q = rw (← e, ← t, p) q
 
-    pub eliminates-not : (r : Eliminated) → n ≡ false → r ≡ notEliminated s damping → r ≡ elimination s b damping
+    pub eliminates-not : (r : Change) → n ≡ false → r ≡ notEliminated s damping → r ≡ elimination s b damping
     unfolding elimination
     eliminates-not r p q = rw (← e, ← t, p) q
 
@@ -94,24 +93,3 @@ module _ (s : ReducedSystem) (b : LocalLinearization) (damping : Float) where
         unfolding add
         adds-block x n e q =
             rw (← t, not-false g p, not-false (leb (s .«weak_point_count») (s .«block_count»)) w, not-false (ltb (s .«block_count») maxBlocks) n, e, q) refl
-
--- ---- a finished system
-
-module _ (s : ReducedSystem) (damping : Float) (g : Bool) (t : g ≡ goodDamping damping) (r : Refusal) where
-  pub finishes-not : not g ≡ true → r ≡ of Rows.damping → record { system = s; refusal = r } ≡ finishDamping s damping
-  unfolding finishDamping
-  finishes-not p q = rw (← t, not-true g p, q) refl
-
-  pub finishes : (h : List Float) (x : ReducedSystem) → not g ≡ false → h ≡ dampedHessian (s .hessian) (s .«pose_diagonal») damping → x ≡ withHessian s h → r ≡ none
-      → record { system = x; refusal = r } ≡ finishDamping s damping
-  unfolding finishDamping
-  finishes h x p eh ex q = rw (← t, not-false g p, ← eh, ex, q) refl
-
-module _ (s : ReducedSystem) (step : List Float) (damping n : Float) (g : Bool) (t : g ≡ goodDamping damping) (r : Refusal) where
-  pub predicts-not : not g ≡ true → r ≡ of Rows.damping → record { reduction = zero; refusal = r } ≡ predictedReduction s step damping n
-  unfolding predictedReduction
-  predicts-not p q = rw (← t, not-true g p, q) refl
-
-  pub predicts : not g ≡ false → (x : Float) → x ≡ reductionOf s step damping n → r ≡ none → record { reduction = x; refusal = r } ≡ predictedReduction s step damping n
-  unfolding predictedReduction
-  predicts p x e q = rw (← t, not-false g p, ← e, q) refl

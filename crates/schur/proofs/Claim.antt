@@ -21,10 +21,11 @@ use Rattle.point_block.specs.Condition.{reciprocalConditionNumber}
 use Rattle.point_block.specs.Lone.{factor, goodDamping, loneFactor}
 use Rattle.point_block.proofs.Laws.{lone-factors, rcond-nonneg}
 use Rattle.linearization.specs.declared.linearize.LocalLinearization.{LocalLinearization}
-use Rattle.schur.specs.declared.system.ReducedSystem.{ReducedSystem}
-use Rattle.schur.specs.declared.system.Added.{Added}
+use Rattle.reduced_system.specs.declared.ReducedSystem.{ReducedSystem}
+use Rattle.reduced_system.specs.declared.Added.{Added}
+use Rattle.reduced_system.specs.Model.{newSystem}
 use Rattle.elimination.specs.Elimination.{reducedHessian, reducedGradient, pointReduction}
-use Rattle.schur.specs.System.{maxBlocks, newSystem, isZero, isWeak, raised, notEliminated, eliminated, elimination, takenWith, taken, add}
+use Rattle.schur.specs.System.{maxBlocks, isZero, isWeak, raised, notEliminated, eliminated, elimination, takenWith, taken, add}
 use Rattle.schur.specs.Calls.{Inputs, made, Call, atDamping, atRefused, added, results, after, afterBlocks, Tally, factors, smallRcond, hasRoom, takenIn, tally, refusals, blocksIn, all, filter}
 use Rattle.linearization.proofs.Costs.{Costs, made-costs}
 use Rattle.schur.specs.Claim.{CallByCall, final, SameEquations, Further, Claim}

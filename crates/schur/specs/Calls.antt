@@ -14,8 +14,8 @@ use Rattle.point_block.specs.Lone.{goodDamping, loneFactor}
 use Rattle.linearization.specs.declared.linearize.LocalLinearization.{LocalLinearization}
 use Rattle.views.specs.declared.Pose.{Pose}
 use Rattle.views.specs.declared.Correspondence.{Correspondence}
-use Rattle.schur.specs.declared.system.ReducedSystem.{ReducedSystem}
-use Rattle.schur.specs.declared.system.Added.{Added}
+use Rattle.reduced_system.specs.declared.ReducedSystem.{ReducedSystem}
+use Rattle.reduced_system.specs.declared.Added.{Added}
 use Rattle.linearization.specs.Linearize.{linearizePoint}
 use Rattle.schur.specs.System.{maxBlocks, add}
 

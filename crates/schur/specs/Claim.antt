@@ -7,9 +7,9 @@ use lib.Dec.{T, leb}
 use lib.ListN.{length}
 use lib.Ieee.{Float, le}
 use Rattle.linearization.specs.declared.linearize.LocalLinearization.{LocalLinearization}
-use Rattle.schur.specs.declared.system.ReducedSystem.{ReducedSystem}
-use Rattle.schur.specs.declared.system.Added.{Added}
-use Rattle.schur.specs.System.{newSystem}
+use Rattle.reduced_system.specs.declared.ReducedSystem.{ReducedSystem}
+use Rattle.reduced_system.specs.declared.Added.{Added}
+use Rattle.reduced_system.specs.Model.{newSystem}
 use Rattle.schur.specs.Calls.{Call, added, results, after, afterBlocks, Tally, start, factors, smallRcond, atZero, tally, refusals, blocksIn, all, filter}
 
 -- each handed-back system is what the definition of `add` gives for the call and the system handed back before

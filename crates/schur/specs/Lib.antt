@@ -1,5 +1,4 @@
--- Module 5 of document 01: schur.rs.
+-- Module 5 of document 01: `add` of schur.rs.
 pub mod System
-pub mod Model
 pub mod Calls
 pub mod Claim

@@ -1,12 +1,11 @@
--- The reduced system, `ReducedSystem` of schur.rs: `new` and `add`. Document 01, "The system".
+-- A block taken into the reduced system: `add` of schur.rs. Document 01, "The system".
 use Prim.Native.Nat.{ℕ, suc, _<_, _≤_}
-use mathlib.Core.Bool.{Bool, true, false, cond}
+use mathlib.Core.Bool.{Bool, false, cond}
 use mathlib.Core.List.{List}
 use lib.Dec.{leb, ltb}
 use lib.Ieee.{Float, le, eq}
-use Rattle.number.specs.Binary64.{_⊕_, zero, one, epsilon192}
+use Rattle.number.specs.Binary64.{_⊕_, zero, epsilon192}
 use Rattle.number.specs.Extrema.{max, min}
-use Rattle.number.specs.Vectors.{tabulate}
 use Rattle.refusal.specs.Rows as Rows
 use Rattle.refusal.specs.Refused.{of, none, isNone}
 use Rattle.point_block.specs.Condition.{reciprocalConditionNumber}
@@ -15,9 +14,9 @@ use Rattle.linearization.specs.declared.linearize.LocalLinearization.{LocalLine
 use Rattle.elimination.specs.Elimination.{reducedHessian, reducedGradient, pointReduction}
 use Rattle.gradient_norm.specs.GradientNorm.{pointGradientNorm}
 use Rattle.pose_model.specs.PoseModel.{sum5, diagonal5}
-use Rattle.schur.specs.declared.system.ReducedSystem.{ReducedSystem}
-use Rattle.schur.specs.declared.system.Added.{Added}
-use Rattle.schur.specs.declared.system.Eliminated.{Eliminated}
+use Rattle.reduced_system.specs.declared.ReducedSystem.{ReducedSystem}
+use Rattle.reduced_system.specs.declared.Added.{Added}
+use Rattle.schur.specs.declared.block.Change.{Change}
 
 -- the most blocks that a system takes in
 abbrev pub maxBlocks : ℕ
@@ -26,22 +25,6 @@ maxBlocks = 65535
 -- a system that takes one more block in: rows 12 and 13 do not refuse it
 abbrev pub Free : ReducedSystem → Type 0
 Free s = (s .«block_count» < maxBlocks) × (s .«weak_point_count» ≤ s .«block_count»)
-
-unfoldable pub newSystem : ReducedSystem
-newSystem = record {
-  hessian = tabulate 25 (λ i. zero);
-  gradient = tabulate 5 (λ i. zero);
-  cost = zero;
-  «squared_residual» = zero;
-  «full_pose_gradient» = tabulate 5 (λ i. zero);
-  «pose_diagonal» = tabulate 5 (λ i. zero);
-  «point_model_reduction» = zero;
-  «scaled_point_gradient_inf_norm» = zero;
-  «weak_point_count» = 0;
-  «minimum_point_rcond» = one;
-  valid = true;
-  «block_count» = 0;
-}
 
 -- "Damping −0 counts as zero"
 abbrev pub isZero : Float → Bool
@@ -57,7 +40,7 @@ abbrev pub raised : Bool → ℕ → ℕ
 raised b n = cond b (suc n) n
 
 -- a block that does not factor clears the flag and, at damping zero only, raises the weak count and sets the smallest rcond to 0
-unfoldable pub notEliminated : ReducedSystem → Float → Eliminated
+unfoldable pub notEliminated : ReducedSystem → Float → Change
 notEliminated s damping = record {
   hessian = s .hessian;
   gradient = s .gradient;
@@ -68,7 +51,7 @@ notEliminated s damping = record {
 }
 
 -- a block that factors, by its packed inverse
-unfoldable pub eliminated : ReducedSystem → LocalLinearization → Float → List Float → Eliminated
+unfoldable pub eliminated : ReducedSystem → LocalLinearization → Float → List Float → Change
 eliminated s b damping inverse = record {
   hessian = reducedHessian (s .hessian) inverse b;
   gradient = reducedGradient (s .gradient) inverse b;
@@ -78,13 +61,13 @@ eliminated s b damping inverse = record {
   valid = s .valid;
 }
 
-unfoldable pub elimination : ReducedSystem → LocalLinearization → Float → Eliminated
+unfoldable pub elimination : ReducedSystem → LocalLinearization → Float → Change
 elimination s b damping =
     let f = factor (b .«point_hessian») damping in
     cond (isNone (f .refusal)) (eliminated s b damping (f .inverse)) (notEliminated s damping)
 
 -- The system with the block's costs, pose terms and gradient norm taken in, as every block is, and with what elimination changes.
-unfoldable pub takenWith : ReducedSystem → LocalLinearization → Eliminated → ReducedSystem
+unfoldable pub takenWith : ReducedSystem → LocalLinearization → Change → ReducedSystem
 takenWith s b e = record {
   hessian = e .hessian;
   gradient = e .gradient;

@@ -4,8 +4,9 @@
 // The system lent by its owner and changed there, as the Rust's `add(&mut self)` does.
 ghost use mathlib.Core.Path.{_≡_};
 ghost use Rattle.schur.specs.System as System;
-use crate::system::ReducedSystem;
+use crate::block;
 use linearization::LocalLinearization;
+use reduced_system::ReducedSystem;
 use refusal::Refusal;
 
 // Takes a block in. Tests rows 3, 12, 13; refused, it leaves the system unchanged.
@@ -13,7 +14,7 @@ pub fn add_to(system: &mut ReducedSystem, local: LocalLinearization, damping: f6
     ensures { λ r. ⌜ (r ≡ System.add (now (system .entry)) local damping .refusal) × (now (system .exit) ≡ System.add (now (system .entry)) local damping .system) ⌝ }
 {
     let was = *system;
-    let done = was.add(local, damping);
+    let done = block::add(was, local, damping);
     *system = done.system;
     done.refusal
 }

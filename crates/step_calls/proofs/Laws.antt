@@ -8,7 +8,7 @@ use borrow.Author.Tests.{not-true, not-false}
 use lib.ListN.{length, set}
 use lib.Ieee.{Float}
 use Rattle.refusal.specs.declared.Refusal.{Refusal}
-use Rattle.schur.specs.declared.system.ReducedSystem.{ReducedSystem}
+use Rattle.reduced_system.specs.declared.ReducedSystem.{ReducedSystem}
 use Rattle.checks.specs.Problem.{Problem}
 use Rattle.optimizer.specs.Step as Step
 use Rattle.checks.specs.declared.Rig.{Rig}

@@ -8,8 +8,8 @@ use lib.Ieee.{Float}
 use Rattle.refusal.specs.Refused.{none}
 use Rattle.refusal.specs.declared.Refusal.{Refusal}
 use Rattle.schur.specs.System as System
-use Rattle.schur.specs.Model as Model
-use Rattle.schur.specs.declared.system.ReducedSystem.{ReducedSystem}
+use Rattle.reduced_system.specs.Model as Model
+use Rattle.reduced_system.specs.declared.ReducedSystem.{ReducedSystem}
 use Rattle.checks.specs.Problem.{Problem}
 use Rattle.pose_step.specs.PoseStep as PoseStep
 use Rattle.optimizer.specs.Step as Step
@@ -38,7 +38,7 @@ change fits refusal s numbers counts =
     (record { number = lengthsCode; numbers = numbers; counts = counts })
 
 unfoldable pub newSystem : List Float → List ℕ → Change
-newSystem x counts = change (long x 45 && long counts 3) none System.newSystem x counts
+newSystem x counts = change (long x 45 && long counts 3) none Model.newSystem x counts
 
 unfoldable pub add : List Float → List ℕ → List Float → Float → Change
 add x counts b damping =

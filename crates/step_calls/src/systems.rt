@@ -4,8 +4,8 @@ ghost use lib.ListN.{length};
 ghost use Rattle.slices.specs.Answers as Answers;
 ghost use Rattle.flat.specs.Flat as Flat;
 ghost use Rattle.step_calls.specs.Calls as Calls;
+use reduced_system::ReducedSystem;
 use refusal::Refusal;
-use schur::ReducedSystem;
 
 pub fn system_new(system: &mut [f64], counts: &mut [u16]) -> u64
     ensures { λ r. ⌜ Calls.Changed r (now (system .exit)) (now (counts .exit))
@@ -25,7 +25,7 @@ pub fn system_add(system: &mut [f64], counts: &mut [u16], block: &[f64], damping
         return slices::lengths();
     }
     let s = flat::system(system, counts);
-    let added = s.add(flat::block(block), damping);
+    let added = schur::add(s, flat::block(block), damping);
     let refusal = added.refusal;
     let next = added.system;
     answer(refusal, next, system, counts)

@@ -46,14 +46,14 @@ use Rattle.refusal.proofs.Refusal as R
 use Rattle.refusal.proofs.Refusal.Laws as R′
 use Rattle.schur.specs.System as System
 use Rattle.linearization.specs.declared.linearize.LocalLinearization.{LocalLinearization}
-use Rattle.schur.specs.declared.system.ReducedSystem.{ReducedSystem}
-use Rattle.schur.specs.declared.system.Added.{Added}
+use Rattle.reduced_system.specs.declared.ReducedSystem.{ReducedSystem}
+use Rattle.reduced_system.specs.declared.Added.{Added}
 use Rattle.linearization.proofs.linearize.LocalLinearization as L
 use Rattle.linearization.proofs.linearize.LocalLinearization.Laws as L′
-use Rattle.schur.proofs.system.ReducedSystem as T
-use Rattle.schur.proofs.system.ReducedSystem.Laws as T′
-use Rattle.schur.proofs.system.Added as D
-use Rattle.schur.proofs.system.Added.Laws as D′
+use Rattle.reduced_system.proofs.ReducedSystem as T
+use Rattle.reduced_system.proofs.ReducedSystem.Laws as T′
+use Rattle.reduced_system.proofs.Added as D
+use Rattle.reduced_system.proofs.Added.Laws as D′
 use Rattle.schur.proofs.add_to as add-to
 use Rattle.schur.proofs.add_to.Symbol as add-to-def
 use Rattle.schur.proofs.add_to.Symbol.{name as #add-to}

@@ -44,18 +44,18 @@ use Rattle.refusal.proofs.Refusal as R
 use Rattle.refusal.proofs.Refusal.Laws as R′
 use Rattle.schur.specs.System as System
 use Rattle.linearization.specs.declared.linearize.LocalLinearization.{LocalLinearization}
-use Rattle.schur.specs.declared.system.ReducedSystem.{ReducedSystem}
-use Rattle.schur.specs.declared.system.Added.{Added}
+use Rattle.reduced_system.specs.declared.ReducedSystem.{ReducedSystem}
+use Rattle.reduced_system.specs.declared.Added.{Added}
 use Rattle.linearization.proofs.linearize.LocalLinearization as L
 use Rattle.linearization.proofs.linearize.LocalLinearization.Laws as L′
-use Rattle.schur.proofs.system.ReducedSystem as T
-use Rattle.schur.proofs.system.ReducedSystem.Laws as T′
-use Rattle.schur.proofs.system.Added as D
-use Rattle.schur.proofs.system.Added.Laws as D′
-use Rattle.schur.proofs.system.ReducedSystem.add as add
-use Rattle.schur.proofs.system.ReducedSystem.add.Symbol as add-def
-use Rattle.schur.proofs.system.ReducedSystem.add.Symbol.{name as #add}
-use Rattle.schur.proofs.system.ReducedSystem.add.Met as add-thm
+use Rattle.reduced_system.proofs.ReducedSystem as T
+use Rattle.reduced_system.proofs.ReducedSystem.Laws as T′
+use Rattle.reduced_system.proofs.Added as D
+use Rattle.reduced_system.proofs.Added.Laws as D′
+use Rattle.schur.proofs.block.add as add
+use Rattle.schur.proofs.block.add.Symbol as add-def
+use Rattle.schur.proofs.block.add.Symbol.{name as #add}
+use Rattle.schur.proofs.block.add.Met as add-thm
 use Rattle.schur.proofs.lent.add_to.Key.{name as #add-to}
 use Rattle.schur.proofs.lent.add_to as f
 use Rattle.schur.proofs.lent.add_to.Statement as stated
@@ -165,4 +165,4 @@ add-to-spec 𝓤 H 𝓜 𝓖 𝓡 =
     entered 𝓤 H (tripleOf 𝓤 H (𝓖 .A) f.signature (f.spec 𝓤 H (𝓖 .A) (𝓜 .mem) (𝓡 .run)))
     (tables 𝓤 H 𝓜 𝓡 code.env .C) (tables 𝓤 H 𝓜 𝓡 code.env .Λ) #add-to code.function (code.unfolded 𝓤 H 𝓜 𝓡)
     (add-to-meets 𝓤 H (𝓖 .A) (givenOf 𝓤 H 𝓜 𝓖) (𝓜 .mem) (𝓡 .run) (tablesOf 𝓤 H 𝓜 (tables 𝓤 H 𝓜 𝓡 code.env))
-    (cited 𝓤 H (Add 𝓤 H (𝓖 .A) (𝓜 .mem) (𝓡 .run)) 𝓜 𝓡 code.env #add add-def.routine code.calls-schur·system·ReducedSystem·add (add-thm.met 𝓤 H 𝓜 𝓖 𝓡)))
+    (cited 𝓤 H (Add 𝓤 H (𝓖 .A) (𝓜 .mem) (𝓡 .run)) 𝓜 𝓡 code.env #add add-def.routine code.calls-schur·block·add (add-thm.met 𝓤 H 𝓜 𝓖 𝓡)))

@@ -3,8 +3,8 @@ use mathlib.Core.Path.{_≡_, ap, _∙_}
 use lib.ListN.{length}
 use Rattle.schur.specs.System as System
 use Rattle.linearization.specs.declared.linearize.LocalLinearization.{LocalLinearization}
-use Rattle.schur.specs.declared.system.Added.{Added}
-use Rattle.schur.specs.declared.system.ReducedSystem.{ReducedSystem}
+use Rattle.reduced_system.specs.declared.Added.{Added}
+use Rattle.reduced_system.specs.declared.ReducedSystem.{ReducedSystem}
 use Rattle.flat.specs.Flat.{system}
 use Rattle.step_calls.specs.Calls.{add}
 use Rattle.slices.proofs.Laws.{three-fit}

@@ -1,9 +1,9 @@
 -- `step_calls::systems::system_finish_damping` meets its contract. Assumes nothing.
 use mathlib.Core.Path.{_≡_, ap, _∙_}
 use lib.ListN.{length}
-use Rattle.schur.specs.Model as Model
-use Rattle.schur.specs.declared.system.Added.{Added}
-use Rattle.schur.specs.declared.system.ReducedSystem.{ReducedSystem}
+use Rattle.reduced_system.specs.Model as Model
+use Rattle.reduced_system.specs.declared.Added.{Added}
+use Rattle.reduced_system.specs.declared.ReducedSystem.{ReducedSystem}
 use Rattle.step_calls.specs.Calls.{finishDamping}
 use Rattle.slices.proofs.Laws.{two-fit}
 use Rattle.step_calls.proofs.Laws.{too-short-system, changes}

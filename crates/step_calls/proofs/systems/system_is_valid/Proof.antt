@@ -5,8 +5,8 @@ use mathlib.Core.List.{[], _∷_}
 use Prim.Native.Nat.{ℕ}
 use native.Mathlib.Omega.{arith}
 use lib.ListN.{length}
-use Rattle.schur.specs.Model as Model
-use Rattle.schur.specs.declared.system.ReducedSystem.{ReducedSystem}
+use Rattle.reduced_system.specs.Model as Model
+use Rattle.reduced_system.specs.declared.ReducedSystem.{ReducedSystem}
 use Rattle.slices.specs.Answers.{code}
 use Rattle.step_calls.specs.Calls.{isValid}
 use Rattle.flat.specs.Flat.{flag}

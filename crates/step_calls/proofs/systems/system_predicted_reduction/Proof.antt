@@ -3,9 +3,9 @@ use mathlib.Core.Path.{_≡_, sym, ap, _∙_}
 use mathlib.Core.List.{List, [], _∷_}
 use lib.ListN.{length}
 use lib.Ieee.{Float}
-use Rattle.schur.specs.Model as Model
-use Rattle.schur.specs.declared.system.ReducedSystem.{ReducedSystem}
-use Rattle.schur.specs.declared.system.Predicted.{Predicted}
+use Rattle.reduced_system.specs.Model as Model
+use Rattle.reduced_system.specs.declared.ReducedSystem.{ReducedSystem}
+use Rattle.reduced_system.specs.declared.Predicted.{Predicted}
 use Rattle.flat.specs.Flat.{system}
 use Rattle.step_calls.specs.Calls.{predictedReduction}
 use Rattle.slices.proofs.Laws.{whole, too-short, answers, four-fit}

@@ -1,0 +1,2 @@
+-- Module 5 of document 01: `ReducedSystem` of schur.rs.
+pub mod Model

@@ -1,0 +1,24 @@
+-- `schur::block::taken_with` meets its contract. Assumes nothing.
+use Rattle.schur.proofs.Adding.{takes-with}
+use native.Mathlib.Omega.{arith}
+use borrow.Author.Needs.{needs}
+use Rattle.schur.proofs.block.taken_with.Statement.{statement}
+use Rattle.schur.proofs.block.taken_with.Tie as tie
+
+returns : tie.Need-returns
+returns c =
+    let m = c .before in
+    let d = m .before .before in
+    takes-with _ _ _ _ _ _ _ _ (d .before .before .sum5 .ensures) (d .before .diagonal5 .ensures) (d .sum52 .ensures) (m .before .point-gradient-norm .ensures) (m .max .ensures)
+
+pub taken-with-spec : {M : Type 1} → statement M
+taken-with-spec =
+    tie.close
+    (tie.spec
+    (λ c κs. search needs)
+    (λ c κs. search needs)
+    (λ c κs. search needs)
+    (λ c κs. search needs)
+    (λ c κs. search needs)
+    (λ c. omega arith)
+    returns)
