@@ -78,7 +78,7 @@ pub(crate) fn project(rig: Rig, view: u32, observation: [f64; 2], point: [f64; 3
     if view == 1 {
         projection::pixel_projection(camera1, observation, point)
     } else {
-        let moved = jacobians::camera_point(jacobians::rotate(rotation, point), translation);
+        let moved = camera_frame::camera_point(camera_frame::rotate(rotation, point), translation);
         projection::pixel_projection(camera2, observation, moved)
     }
 }

@@ -1,34 +1,10 @@
 // SPDX-FileCopyrightText: 2026 Pierre Moulon and OpenMVG Rust contributors
 // SPDX-License-Identifier: MIT OR Apache-2.0
 
-// How a point moves into the second camera's frame, and how its two coordinates in the image move
-// with the pose and with the point.
+// How a point's two coordinates in the second image move with the pose and with the point, in
+// `linearize_point` of kernel/two_view/schur.rs.
 ghost use mathlib.Core.Path.{_≡_};
-ghost use Rattle.projection.specs.Pose as Pose;
 ghost use Rattle.jacobians.specs.Jacobians as Jacobians;
-
-pub fn rotate(rotation: [f64; 9], point: [f64; 3]) -> [f64; 3]
-    ensures { λ r. ⌜ r ≡ Pose.rotate rotation point ⌝ }
-{
-    let mut out = [0.0; 3];
-    for i in 0..3 {
-        let row = 3 * i;
-        out[i] = rotation[row] * point[0]
-            + rotation[row + 1] * point[1]
-            + rotation[row + 2] * point[2];
-    }
-    out
-}
-
-pub fn camera_point(rotated: [f64; 3], translation: [f64; 3]) -> [f64; 3]
-    ensures { λ r. ⌜ r ≡ Pose.cameraPoint rotated translation ⌝ }
-{
-    [
-        rotated[0] + translation[0],
-        rotated[1] + translation[1],
-        rotated[2] + translation[2],
-    ]
-}
 
 // How the turned point moves with the pose: three rows of five
 pub fn pose_motion_jacobian(rotated: [f64; 3], basis: [f64; 6], baseline: f64) -> [f64; 15]

@@ -77,12 +77,12 @@ pub fn linearize_views(
     }
     let rotation = pose.rotation;
     let translation = pose.translation;
-    let rotated = jacobians::rotate(rotation, point);
+    let rotated = camera_frame::rotate(rotation, point);
     let view2 = correspondence.view2;
     let second = projection::pixel_projection(
         camera2,
         view2,
-        jacobians::camera_point(rotated, translation),
+        camera_frame::camera_point(rotated, translation),
     );
     let refusal2 = second.refusal;
     if !refusal2.is_none() {

@@ -1,9 +1,9 @@
--- `jacobians::camera_point` meets its contract. Assumes nothing.
+-- `camera_frame::camera_point` meets its contract. Assumes nothing.
 use mathlib.Core.Path.{refl}
 use Rattle.projection.specs.Pose.{cameraPoint}
 use native.Mathlib.Omega.{arith}
-use Rattle.jacobians.proofs.camera_point.Statement.{statement}
-use Rattle.jacobians.proofs.camera_point.Tie as tie
+use Rattle.camera_frame.proofs.camera_point.Statement.{statement}
+use Rattle.camera_frame.proofs.camera_point.Tie as tie
 
 returns : tie.Need-returns
 unfolding cameraPoint

@@ -1,4 +1,4 @@
--- `jacobians::rotate` meets its contract. Assumes nothing.
+-- `camera_frame::rotate` meets its contract. Assumes nothing.
 use mathlib.Core.Path.{_≡_, refl}
 use Prim.Native.Nat.{_+_, _*_, _-_, _≤_}
 use native.Mathlib.Omega.{arith}
@@ -6,8 +6,8 @@ use Rattle.number.proofs.Fill.{filledOf, array-none, array-next, array-full}
 use Rattle.number.specs.Binary64.{_⊕_, _⊗_}
 use Rattle.number.specs.Vectors.{_!_}
 use Rattle.projection.specs.Pose.{rotate}
-use Rattle.jacobians.proofs.rotate.Statement.{statement}
-use Rattle.jacobians.proofs.rotate.Tie as tie
+use Rattle.camera_frame.proofs.rotate.Statement.{statement}
+use Rattle.camera_frame.proofs.rotate.Tie as tie
 
 abbrev Inv-loop : tie.InvT-loop
 Inv-loop rotation point out₀ i₀ out i = (i ≤ 3) × (out ≡ filledOf 3 (λ i. rotation ! (3 * i) ⊗ point ! 0 ⊕ rotation ! (3 * i + 1) ⊗ point ! 1 ⊕ rotation ! (3 * i + 2) ⊗ point ! 2) i)
