@@ -1,5 +1,4 @@
 // The calls of `point_block`.
-ghost use Prim.Native.Nat.{_≤_};
 use crate::calls::Call;
 use crate::cases::Case;
 use crate::files;
@@ -24,30 +23,27 @@ pub fn replay(text: &mut [u8; ROOM]) {
 }
 
 pub fn damping_diagonal(case: Case) -> Outcome {
-    let diagonal = PointBlockFactor::damping_diagonal(matrix(case, 0));
+    let diagonal = PointBlockFactor::damping_diagonal(matrix(case));
     let values = diagonal.values;
     Outcome::of(case, diagonal.refusal).with(&values)
 }
 
 pub fn damped_matrix(case: Case) -> Outcome {
-    let damped = PointBlockFactor::damped_matrix(matrix(case, 0), case.number(9));
+    let damped = PointBlockFactor::damped_matrix(matrix(case), case.number(9));
     let values = damped.matrix;
     Outcome::of(case, damped.refusal).with(&values)
 }
 
 pub fn factor_damped(case: Case) -> Outcome {
-    factored(case, PointBlockFactor::factor_damped(matrix(case, 0)))
+    factored(case, PointBlockFactor::factor_damped(matrix(case)))
 }
 
 pub fn factor(case: Case) -> Outcome {
-    factored(
-        case,
-        PointBlockFactor::factor(matrix(case, 0), case.number(9)),
-    )
+    factored(case, PointBlockFactor::factor(matrix(case), case.number(9)))
 }
 
 pub fn factor_new(case: Case) -> Outcome {
-    let lone = PointBlockFactor::new(matrix(case, 0), case.number(9));
+    let lone = PointBlockFactor::new(matrix(case), case.number(9));
     let inverse = lone.inverse;
     Outcome::of(case, lone.refusal)
         .with(&inverse)
@@ -55,16 +51,17 @@ pub fn factor_new(case: Case) -> Outcome {
 }
 
 pub fn factor_solve(case: Case) -> Outcome {
-    let mut x = [0.0; 3];
-    case.fill(6, &mut x);
-    let solution = stored_factor(case).solve(x);
+    let x = case.numbers();
+    let solution = stored_factor(case).solve(slices::vector3(&x, 6));
     Outcome::of(case, Refusal::none()).with(&solution)
 }
 
 pub fn reciprocal_condition_number(case: Case) -> Outcome {
+    let x = case.numbers();
+    let factor = stored_factor(case);
     Outcome::one(
         case,
-        stored_factor(case).reciprocal_condition_number(matrix(case, 6)),
+        factor.reciprocal_condition_number(slices::vector9(&x, 6)),
     )
 }
 
@@ -73,20 +70,16 @@ fn factored(case: Case, factor: PointBlockFactor) -> Outcome {
     Outcome::of(case, factor.refusal).with(&inverse)
 }
 
-fn matrix(case: Case, start: usize) -> [f64; 9]
-    requires { ⌜ start ≤ 151 ⌝ }
-{
-    let mut values = [0.0; 9];
-    case.fill(start, &mut values);
-    values
+fn matrix(case: Case) -> [f64; 9] {
+    let x = case.numbers();
+    slices::vector9(&x, 0)
 }
 
 // The factor whose inverse is the first six numbers
 fn stored_factor(case: Case) -> PointBlockFactor {
-    let mut inverse = [0.0; 6];
-    case.fill(0, &mut inverse);
+    let x = case.numbers();
     PointBlockFactor {
-        inverse,
+        inverse: slices::vector6(&x, 0),
         refusal: Refusal::none(),
     }
 }

@@ -1,5 +1,5 @@
 // The reader: a line of stored answers as numbers.
-ghost use Prim.Native.Nat.{_+_, _<_, _≤_};
+ghost use Prim.Native.Nat.{_<_, _≤_};
 ghost use lib.ListN.{length};
 
 // So many words a line may have, `=` and `refused` among them.
@@ -76,13 +76,14 @@ impl Case {
         (words[i] % 65536) as u16
     }
 
-    // The numbers of the words from `start` on
-    pub(crate) fn fill(self, start: usize, values: &mut [f64])
-        requires { ⌜ start + length (now values) ≤ 160 ⌝ }
-    {
-        for i in 0..values.len() {
-            values[i] = self.number(start + i);
+    // The numbers of all words
+    pub(crate) fn numbers(self) -> [f64; WORDS] {
+        let words = self.words;
+        let mut values = [0.0; WORDS];
+        for i in 0..WORDS {
+            values[i] = number::from_bits(words[i]);
         }
+        values
     }
 }
 

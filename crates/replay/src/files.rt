@@ -10,8 +10,8 @@ pub fn replay(text: &mut [u8], file: &[u8], inputs: usize, call: Call) {
     if file.len() < 4 {
         return;
     }
-    let correspondence = file.len() - 4;
-    let name = &file[0..correspondence];
+    let point = file.len() - 4;
+    let name = &file[0..point];
     let n = stored_file::read(file, text);
     Tally::of(&text[..n], name, inputs, call).show(name);
 }

@@ -1,11 +1,9 @@
 // The calls of `projection`.
-ghost use Prim.Native.Nat.{_≤_};
 use crate::calls::Call;
 use crate::cases::Case;
 use crate::files;
 use crate::files::ROOM;
 use crate::outcomes::Outcome;
-use projection::PinholeCamera;
 use projection::Projected;
 
 pub fn replay(text: &mut [u8; ROOM]) {
@@ -13,13 +11,13 @@ pub fn replay(text: &mut [u8; ROOM]) {
 }
 
 pub fn pixel_projection(case: Case) -> Outcome {
-    let mut observation = [0.0; 2];
-    case.fill(5, &mut observation);
-    let mut point = [0.0; 3];
-    case.fill(7, &mut point);
+    let x = case.numbers();
+    let camera = flat::camera(&x, 0);
+    let observation = slices::vector2(&x, 5);
+    let point = slices::vector3(&x, 7);
     seen(
         case,
-        projection::pixel_projection(camera(case, 0), observation, point),
+        projection::pixel_projection(camera, observation, point),
     )
 }
 
@@ -29,16 +27,4 @@ fn seen(case: Case, projected: Projected) -> Outcome {
     Outcome::of(case, projected.refusal)
         .with(&residual)
         .with(&jacobian)
-}
-
-pub(crate) fn camera(case: Case, start: usize) -> PinholeCamera
-    requires { ⌜ start ≤ 155 ⌝ }
-{
-    PinholeCamera {
-        fx: case.number(start),
-        fy: case.number(start + 1),
-        cx: case.number(start + 2),
-        cy: case.number(start + 3),
-        skew: case.number(start + 4),
-    }
 }

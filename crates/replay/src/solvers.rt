@@ -15,11 +15,8 @@ pub fn replay(text: &mut [u8; ROOM]) {
 }
 
 pub fn solve_positive_definite(case: Case) -> Outcome {
-    let mut a = [0.0; 25];
-    case.fill(0, &mut a);
-    let mut b = [0.0; 5];
-    case.fill(25, &mut b);
-    let solved = solver::solve_positive_definite(a, b);
-    let x = solved.x;
-    Outcome::of(case, solved.refusal).with(&x)
+    let x = case.numbers();
+    let solved = solver::solve_positive_definite(slices::vector25(&x, 0), slices::vector5(&x, 25));
+    let solution = solved.x;
+    Outcome::of(case, solved.refusal).with(&solution)
 }

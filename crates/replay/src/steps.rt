@@ -11,8 +11,7 @@ pub fn replay(text: &mut [u8; ROOM]) {
 }
 
 pub fn limit_pose_step(case: Case) -> Outcome {
-    let mut x = [0.0; 5];
-    case.fill(0, &mut x);
-    let limited = pose_step::limit_pose_step(x);
+    let x = case.numbers();
+    let limited = pose_step::limit_pose_step(slices::vector5(&x, 0));
     Outcome::of(case, Refusal::none()).with(&limited)
 }

@@ -1,16 +1,11 @@
-// The calls of `schur`.
-ghost use Prim.Native.Nat.{_≤_};
+// The calls on a block and on a system, which stand in a line as in the C interface.
 use crate::calls::Call;
 use crate::cases::Case;
 use crate::files;
 use crate::files::ROOM;
 use crate::outcomes::Outcome;
-use crate::projections;
-use linearization::LocalLinearization;
 use reduced_system::ReducedSystem;
 use refusal::Refusal;
-use views::Correspondence;
-use views::Pose;
 
 pub fn replay(text: &mut [u8; ROOM]) {
     files::replay(text, b"linearize_point.txt", 37, Call::LinearizePoint);
@@ -44,28 +39,20 @@ pub fn replay(text: &mut [u8; ROOM]) {
 }
 
 pub fn linearize_point(case: Case) -> Outcome {
-    let camera1 = projections::camera(case, 0);
-    let camera2 = projections::camera(case, 5);
-    made(
-        case,
-        linearization::linearize_point(camera1, camera2, pose(case), correspondence(case)),
-    )
-}
-
-// Of a call that makes this block
-fn made(case: Case, block: LocalLinearization) -> Outcome {
-    let pose_hessian = block.pose_hessian;
-    let cross_hessian = block.cross_hessian;
-    let point_hessian = block.point_hessian;
-    let pose_gradient = block.pose_gradient;
-    let point_gradient = block.point_gradient;
-    Outcome::of(case, block.refusal)
-        .with(&pose_hessian)
-        .with(&cross_hessian)
-        .with(&point_hessian)
-        .with(&pose_gradient)
-        .with(&point_gradient)
-        .with(&[block.cost, block.squared_residual])
+    let x = case.numbers();
+    let rig = flat::rig(&x);
+    let camera1 = rig.camera1;
+    let camera2 = rig.camera2;
+    let pose = rig.pose;
+    let block = linearization::linearize_point(
+        camera1,
+        camera2,
+        pose,
+        flat::correspondence(&x[29..37]),
+    );
+    let refusal = block.refusal;
+    let values = flat::block_numbers(block);
+    Outcome::of(case, refusal).with(&values)
 }
 
 pub fn system_new(case: Case) -> Outcome {
@@ -73,7 +60,8 @@ pub fn system_new(case: Case) -> Outcome {
 }
 
 pub fn system_add(case: Case) -> Outcome {
-    let added = schur::add(system(case), block(case, 48), case.number(107));
+    let x = case.numbers();
+    let added = schur::add(system(case), flat::block(&x[48..107]), x[107]);
     let next = added.system;
     left(case, added.refusal, next)
 }
@@ -94,20 +82,16 @@ pub fn system_gradient_norm(case: Case) -> Outcome {
 }
 
 pub fn system_predicted_reduction(case: Case) -> Outcome {
-    let mut step = [0.0; 5];
-    case.fill(48, &mut step);
-    let predicted = system(case).predicted_reduction(step, case.number(53), case.number(54));
+    let x = case.numbers();
+    let step = slices::vector5(&x, 48);
+    let predicted = system(case).predicted_reduction(step, x[53], x[54]);
     Outcome::of(case, predicted.refusal).with(&[predicted.reduction])
 }
 
 pub fn point_step(case: Case) -> Outcome {
-    let mut pose_step = [0.0; 5];
-    case.fill(60, &mut pose_step);
-    let moved = point_step::point_step_with_damping_norm(
-        block(case, 0),
-        case.number(59),
-        pose_step,
-    );
+    let x = case.numbers();
+    let pose_step = slices::vector5(&x, 60);
+    let moved = point_step::point_step_with_damping_norm(flat::block(&x), x[59], pose_step);
     let step = moved.step;
     Outcome::of(case, moved.refusal)
         .with(&step)
@@ -116,24 +100,8 @@ pub fn point_step(case: Case) -> Outcome {
 
 // Of a call that leaves this system
 fn left(case: Case, refusal: Refusal, next: ReducedSystem) -> Outcome {
-    let hessian = next.hessian;
-    let gradient = next.gradient;
-    let full_pose_gradient = next.full_pose_gradient;
-    let pose_diagonal = next.pose_diagonal;
-    let outcome = Outcome::of(case, refusal)
-        .with(&hessian)
-        .with(&gradient)
-        .with(&[next.cost, next.squared_residual])
-        .with(&full_pose_gradient)
-        .with(&pose_diagonal)
-        .with(
-            &[
-                next.point_model_reduction,
-                next.scaled_point_gradient_inf_norm,
-                next.minimum_point_rcond,
-            ],
-        );
-    counted(outcome, next)
+    let values = flat::system_numbers(next);
+    counted(Outcome::of(case, refusal).with(&values), next)
 }
 
 fn counted(outcome: Outcome, next: ReducedSystem) -> Outcome {
@@ -143,79 +111,8 @@ fn counted(outcome: Outcome, next: ReducedSystem) -> Outcome {
         .with_word(next.valid as u64)
 }
 
-fn pose(case: Case) -> Pose {
-    let mut rotation = [0.0; 9];
-    case.fill(10, &mut rotation);
-    let mut translation = [0.0; 3];
-    case.fill(19, &mut translation);
-    let mut basis = [0.0; 6];
-    case.fill(22, &mut basis);
-    Pose {
-        rotation,
-        translation,
-        basis,
-        baseline: case.number(28),
-    }
-}
-
-fn correspondence(case: Case) -> Correspondence {
-    let mut point = [0.0; 3];
-    case.fill(29, &mut point);
-    Correspondence {
-        point,
-        view1: [case.number(32), case.number(33)],
-        view2: [case.number(34), case.number(35)],
-        inverse_deviation: case.number(36),
-    }
-}
-
-fn block(case: Case, start: usize) -> LocalLinearization
-    requires { ⌜ start ≤ 101 ⌝ }
-{
-    let mut pose_hessian = [0.0; 25];
-    case.fill(start, &mut pose_hessian);
-    let mut cross_hessian = [0.0; 15];
-    case.fill(start + 25, &mut cross_hessian);
-    let mut point_hessian = [0.0; 9];
-    case.fill(start + 40, &mut point_hessian);
-    let mut pose_gradient = [0.0; 5];
-    case.fill(start + 49, &mut pose_gradient);
-    let mut point_gradient = [0.0; 3];
-    case.fill(start + 54, &mut point_gradient);
-    LocalLinearization {
-        pose_hessian,
-        cross_hessian,
-        point_hessian,
-        pose_gradient,
-        point_gradient,
-        cost: case.number(start + 57),
-        squared_residual: case.number(start + 58),
-        refusal: Refusal::none(),
-    }
-}
-
 // The first 45 numbers, the two counts and the flag
 fn system(case: Case) -> ReducedSystem {
-    let mut hessian = [0.0; 25];
-    case.fill(0, &mut hessian);
-    let mut gradient = [0.0; 5];
-    case.fill(25, &mut gradient);
-    let mut full_pose_gradient = [0.0; 5];
-    case.fill(32, &mut full_pose_gradient);
-    let mut pose_diagonal = [0.0; 5];
-    case.fill(37, &mut pose_diagonal);
-    ReducedSystem {
-        hessian,
-        gradient,
-        cost: case.number(30),
-        squared_residual: case.number(31),
-        full_pose_gradient,
-        pose_diagonal,
-        point_model_reduction: case.number(42),
-        scaled_point_gradient_inf_norm: case.number(43),
-        weak_point_count: case.count16(45),
-        minimum_point_rcond: case.number(44),
-        valid: case.count16(47) != 0,
-        block_count: case.count16(46),
-    }
+    let x = case.numbers();
+    flat::system(&x, &[case.count16(45), case.count16(46), case.count16(47)])
 }
