@@ -22,6 +22,7 @@ use Rattle.optimizer.specs.Step.{blockAt, reducedSystem}
 use Rattle.checks.proofs.Passed.{checked}
 use Rattle.optimizer.proofs.PointSteps.{weak-at-most, costs-are-numbers}
 use Rattle.hex.specs.Hex.{digits}
+use Rattle.fields.specs.Fields.{pointFields}
 use Rattle.record_form.specs.Form as Form
 use Rattle.record.specs.Run.{column, run, damping}
 use Rattle.text.specs.Text.{space, lineFeed, digit, withoutZeros, decimal, pasted, Put}
@@ -149,23 +150,23 @@ refused-length r =
 
 -- ---- the list
 
-count-run : (r : List ℕ) → count (run r) ≡ Form.pointFields r
+count-run : (r : List ℕ) → count (run r) ≡ pointFields r
 unfolding run
-count-run r = length-tabulate (Form.pointFields r) (column r 56 1)
+count-run r = length-tabulate (pointFields r) (column r 56 1)
 
 lines-length : (r : List ℕ) → isNone (refused r) ≡ true → length (linesOf r (reducedSystem (run r))) ≤ maxList
 unfolding linesOf refused
 lines-length r e =
     let checks = after-none (Form.refused r) (Checks.refused (run r)) e in
-    let n : Form.pointFields r ≤ 512 = few-points r (formed r (checks .0)) in
+    let n : pointFields r ≤ 512 = few-points r (formed r (checks .0)) in
     let k = checked (run r) (checks .1) in
     let m = weak-at-most (run r) (k .1) (k .0 .3) in
     let i = count-run r in
-    let w : reducedSystem (run r) .«weak_point_count» ≤ Form.pointFields r = omega arith in
-    let a = length-append (runLine (Form.pointFields r) (damping r) ++ pointLines (run r) (Form.pointFields r)) (sumLine (reducedSystem (run r))) in
-    let b = length-append (runLine (Form.pointFields r) (damping r)) (pointLines (run r) (Form.pointFields r)) in
-    let c = run-length (Form.pointFields r) (damping r) (omega arith) in
-    let d = points-length (run r) (Form.pointFields r) (omega arith) in
+    let w : reducedSystem (run r) .«weak_point_count» ≤ pointFields r = omega arith in
+    let a = length-append (runLine (pointFields r) (damping r) ++ pointLines (run r) (pointFields r)) (sumLine (reducedSystem (run r))) in
+    let b = length-append (runLine (pointFields r) (damping r)) (pointLines (run r) (pointFields r)) in
+    let c = run-length (pointFields r) (damping r) (omega arith) in
+    let d = points-length (run r) (pointFields r) (omega arith) in
     let f = sum-length (reducedSystem (run r)) (omega arith) in
     omega arith
 

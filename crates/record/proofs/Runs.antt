@@ -20,7 +20,7 @@ use Rattle.checks.specs.declared.Rig.{Rig}
 use Rattle.checks.specs.Problem.{Problem, problem, correspondenceAt}
 use Rattle.optimizer.specs.Step.{reduced, blockOf, blockAt}
 use Rattle.optimizer.specs.declared.reduced.Reduced.{Reduced}
-use Rattle.record_form.specs.Form.{camera1At, camera2At, poseAt, basisAt, pointFields}
+use Rattle.fields.specs.Fields.{camera1At, camera2At, poseAt, basisAt, pointFields}
 use Rattle.record.specs.Run.{numberAt, twoAt, threeAt, numbersAt, cameraAt, rig, damping, column, run, correspondenceOf}
 use Rattle.lines.specs.Lines.{letter, pointLine}
 use Rattle.record.specs.Lists.{pointLines}

@@ -13,6 +13,7 @@ use Rattle.reduced_system.specs.declared.ReducedSystem.{ReducedSystem}
 use Rattle.checks.specs.Problem.{Problem}
 use Rattle.checks.specs.Checks as Checks
 use Rattle.optimizer.specs.Step.{blockAt, reducedSystem}
+use Rattle.fields.specs.Fields.{pointFields}
 use Rattle.record_form.specs.Form as Form
 use Rattle.record.specs.Run.{run, damping}
 use Rattle.text.specs.Text.{pasted}
@@ -26,7 +27,7 @@ pointLines p (suc n) = pointLines p n ++ pointLine n (letter (blockAt p n) (p .d
 
 -- the lines of a run, with the sum line of a system
 unfoldable pub linesOf : List ℕ → ReducedSystem → List ℕ
-linesOf r s = runLine (Form.pointFields r) (damping r) ++ pointLines (run r) (Form.pointFields r) ++ sumLine s
+linesOf r s = runLine (pointFields r) (damping r) ++ pointLines (run r) (pointFields r) ++ sumLine s
 
 -- Rows 14 and 15, then the checks of the run. Of these rows 1 and 2 cannot come up: the lists are made with as many numbers as the point fields ask for, and a record within `maxRecord` has 512 points at most.
 unfoldable pub refused : List ℕ → Refusal

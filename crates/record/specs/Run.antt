@@ -8,7 +8,8 @@ use Rattle.projection.specs.declared.PinholeCamera.{PinholeCamera}
 use Rattle.views.specs.declared.Correspondence.{Correspondence}
 use Rattle.checks.specs.declared.Rig.{Rig}
 use Rattle.checks.specs.Problem.{Problem, problem}
-use Rattle.record_form.specs.Form.{byte, camera1At, camera2At, poseAt, basisAt, dampingAt, pointsAt, pointFields, Formed}
+use Rattle.fields.specs.Fields.{byte, camera1At, camera2At, poseAt, basisAt, dampingAt, pointsAt, pointFields}
+use Rattle.record_form.specs.Form.{Formed}
 
 -- four bytes, then eight, low byte first
 abbrev pub half : List ℕ → ℕ → ℕ

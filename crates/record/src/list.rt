@@ -3,6 +3,7 @@ ghost use mathlib.Core.Bool.{true};
 ghost use mathlib.Core.Path.{_≡_};
 ghost use Rattle.refusal.specs.Refused.{isNone};
 ghost use Rattle.optimizer.specs.Step as Steps;
+ghost use Rattle.fields.specs.Fields as Fields;
 ghost use Rattle.record_form.specs.Form as Form;
 ghost use Rattle.record.specs.Lists as Lists;
 ghost use Rattle.record.specs.Run as Run;
@@ -53,7 +54,7 @@ fn put_formed(out: &mut [u8], record: &[u8]) -> usize
     ensures { λ r. ⌜ Text.Put (Lists.list (now («record» .entry))) 0 (now (out .entry)) r (now (out .exit)) ⌝ }
 {
     let rig = run::rig_of(record);
-    let damping = run::number_at(record, record_form::DAMPING_AT + 3);
+    let damping = run::number_at(record, fields::DAMPING_AT + 3);
     let reduced = reduced_system(record, rig, damping);
     let refusal = reduced.refusal;
     if !refusal.is_none() {
@@ -68,7 +69,7 @@ fn reduced_system(record: &[u8], rig: Rig, damping: f64) -> optimizer::Reduced
     requires { ⌜ Run.Read (now «record») rig damping ⌝ }
     ensures { λ r. ⌜ r ≡ Steps.reduced (Run.run (now («record» .entry))) ⌝ }
 {
-    let n = record_form::point_fields(record);
+    let n = fields::point_fields(record);
     let twice = 2 * n;
     let thrice = 3 * n;
     let points = run::column(record, 0, 3, thrice);
@@ -90,7 +91,7 @@ fn put_lines(out: &mut [u8], record: &[u8], rig: Rig, damping: f64, system: Redu
     requires { ⌜ Run.Read (now «record») rig damping ⌝ }
     ensures { λ r. ⌜ Text.Put (Lists.linesOf (now («record» .entry)) system) 0 (now (out .entry)) r (now (out .exit)) ⌝ }
 {
-    let n = record_form::point_fields(record);
+    let n = fields::point_fields(record);
     let points_at = lines::put_run(out, 0, n as u32, damping);
     let sum_at = put_points(out, points_at, record, rig, damping);
     lines::put_sum(out, sum_at, system)
@@ -99,10 +100,10 @@ fn put_lines(out: &mut [u8], record: &[u8], rig: Rig, damping: f64, system: Redu
 // A line for each point
 fn put_points(out: &mut [u8], start: usize, record: &[u8], rig: Rig, damping: f64) -> usize
     requires { ⌜ Run.Read (now «record») rig damping ⌝ }
-    ensures { λ r. ⌜ Text.Put (Lists.pointLines (Run.run (now («record» .entry))) (Form.pointFields (now («record» .entry)))) start (now (out .entry)) r (now (out .exit)) ⌝ }
+    ensures { λ r. ⌜ Text.Put (Lists.pointLines (Run.run (now («record» .entry))) (Fields.pointFields (now («record» .entry)))) start (now (out .entry)) r (now (out .exit)) ⌝ }
 {
     let mut at = start;
-    for i in 0..record_form::point_fields(record) {
+    for i in 0..fields::point_fields(record) {
         let letter = lines::letter(run::block_at(record, rig, i), damping);
         at = lines::put_point(out, at, i as u32, letter);
     }

@@ -4,6 +4,7 @@ ghost use Prim.Native.Nat.{_≤_, _<_, _*_, _+_, _/_, _%_};
 ghost use lib.ListN.{length, take};
 ghost use Rattle.number.specs.Vectors as Vectors;
 ghost use Rattle.optimizer.specs.Step as Steps;
+ghost use Rattle.fields.specs.Fields as Fields;
 ghost use Rattle.record_form.specs.Form as Form;
 ghost use Rattle.record.specs.Run as Run;
 use checks::Rig;
@@ -20,10 +21,10 @@ fn half_at(record: &[u8], at: usize) -> u64
     requires { ⌜ at + 4 ≤ length (now «record») ⌝ }
     ensures { λ r. ⌜ (r ≡ Run.half (now («record» .entry)) at) × (r < 4294967296) ⌝ }
 {
-    let a = record_form::byte_at(record, at);
-    let b = record_form::byte_at(record, at + 1);
-    let c = record_form::byte_at(record, at + 2);
-    let d = record_form::byte_at(record, at + 3);
+    let a = fields::byte_at(record, at);
+    let b = fields::byte_at(record, at + 1);
+    let c = fields::byte_at(record, at + 2);
+    let d = fields::byte_at(record, at + 3);
     a + 256 * b + 65536 * c + 16777216 * d
 }
 
@@ -43,7 +44,7 @@ pub(crate) fn column(
     each: usize,
     count: usize,
 ) -> [f64; 3 * MAX_POINTS]
-    requires { ⌜ (0 < each) × (each ≤ 3) × (first + 8 * each ≤ 64) × (count ≤ each * Form.pointFields (now «record»)) × (count ≤ 1536)
+    requires { ⌜ (0 < each) × (each ≤ 3) × (first + 8 * each ≤ 64) × (count ≤ each * Fields.pointFields (now «record»)) × (count ≤ 1536)
         × Form.Formed (now «record») ⌝ }
     ensures { λ r. ⌜ take count r ≡ Vectors.tabulate count (Run.column (now («record» .entry)) first each) ⌝ }
 {
@@ -51,11 +52,7 @@ pub(crate) fn column(
     for j in 0..count {
         numbers[j] = number_at(
             record,
-            record_form::POINTS_AT
-                + 3
-                + first
-                + record_form::POINT_SIZE * (j / each)
-                + 8 * (j % each),
+            fields::POINTS_AT + 3 + first + fields::POINT_SIZE * (j / each) + 8 * (j % each),
         );
     }
     numbers
@@ -103,31 +100,31 @@ fn numbers_at(record: &[u8], at: usize, out: &mut [f64])
 }
 
 pub(crate) fn rig_of(record: &[u8]) -> Rig
-    requires { ⌜ Form.pointsAt ≤ length (now «record») ⌝ }
+    requires { ⌜ Fields.pointsAt ≤ length (now «record») ⌝ }
     ensures { λ r. ⌜ r ≡ Run.rig (now («record» .entry)) ⌝ }
 {
     let mut rotation = [0.0; 9];
-    numbers_at(record, record_form::POSE_AT + 3, &mut rotation);
+    numbers_at(record, fields::POSE_AT + 3, &mut rotation);
     let mut basis = [0.0; 6];
-    numbers_at(record, record_form::BASIS_AT + 3, &mut basis);
+    numbers_at(record, fields::BASIS_AT + 3, &mut basis);
     let pose = Pose {
         rotation,
-        translation: three_at(record, record_form::POSE_AT + 75),
+        translation: three_at(record, fields::POSE_AT + 75),
         basis,
-        baseline: number_at(record, record_form::BASIS_AT + 51),
+        baseline: number_at(record, fields::BASIS_AT + 51),
     };
     Rig {
-        camera1: camera_at(record, record_form::CAMERA1_AT),
-        camera2: camera_at(record, record_form::CAMERA2_AT),
+        camera1: camera_at(record, fields::CAMERA1_AT),
+        camera2: camera_at(record, fields::CAMERA2_AT),
         pose,
     }
 }
 
 fn correspondence_at(record: &[u8], i: usize) -> Correspondence
-    requires { ⌜ (i < Form.pointFields (now «record»)) × Form.Formed (now «record») ⌝ }
+    requires { ⌜ (i < Fields.pointFields (now «record»)) × Form.Formed (now «record») ⌝ }
     ensures { λ r. ⌜ r ≡ Run.correspondenceOf (now («record» .entry)) i ⌝ }
 {
-    let at = record_form::POINTS_AT + 3 + record_form::POINT_SIZE * i;
+    let at = fields::POINTS_AT + 3 + fields::POINT_SIZE * i;
     Correspondence {
         point: three_at(record, at),
         view1: two_at(record, at + 24),
@@ -138,7 +135,7 @@ fn correspondence_at(record: &[u8], i: usize) -> Correspondence
 
 // The block of a point
 pub(crate) fn block_at(record: &[u8], rig: Rig, i: usize) -> LocalLinearization
-    requires { ⌜ (i < Form.pointFields (now «record»)) × Form.Formed (now «record») ⌝ }
+    requires { ⌜ (i < Fields.pointFields (now «record»)) × Form.Formed (now «record») ⌝ }
     ensures { λ r. ⌜ r ≡ Steps.blockOf rig (Run.correspondenceOf (now («record» .entry)) i) ⌝ }
 {
     let camera1 = rig.camera1;

@@ -11,7 +11,8 @@ use Rattle.refusal.specs.Rows as Rows
 use Rattle.refusal.specs.Refused.{of, isNone}
 use Rattle.refusal.specs.First.{unless, first}
 use Rattle.refusal.proofs.Scans.{row-refuses, after-none, held, all-none}
-use Rattle.record_form.specs.Form.{byte, maxRecord, pointAt, isWhole, fieldRefused, headRefused, pointFields, refused, Formed, camera1At, camera2At, poseAt, basisAt}
+use Rattle.fields.specs.Fields.{byte, pointAt, pointFields, camera1At, camera2At, poseAt, basisAt}
+use Rattle.record_form.specs.Form.{maxRecord, isWhole, fieldRefused, headRefused, refused, Formed}
 
 module _ (r : List ℕ) (tag size start : ℕ) where
   pub too-short : not (leb (start + 3 + size) (length r)) ≡ true → false ≡ isWhole r tag size start

@@ -1,44 +1,19 @@
 -- The form of a run record: fields of one tag byte, two length bytes (low first) and a payload. Tags 1 to 5 are due in order, once each; then tag 6 for each point to the end.
-use Prim.Native.Nat.{ℕ, _+_, _*_, _-_, _/_, _≤_}
+use Prim.Native.Nat.{ℕ, _+_, _*_, _≤_}
 use mathlib.Core.Path.{_≡_}
 use mathlib.Core.Bool.{Bool, _&&_}
 use mathlib.Core.List.{List, [], _∷_}
 use lib.Dec.{eqb, leb}
-use lib.ListN.{length, getD}
+use lib.ListN.{length}
 use Rattle.refusal.specs.Rows as Rows
 use Rattle.refusal.specs.Refused.{at, of}
 use Rattle.refusal.specs.First.{unless, firstOf, first}
 use Rattle.refusal.specs.declared.Refusal.{Refusal}
-
--- the byte at an offset
-abbrev pub byte : List ℕ → ℕ → ℕ
-byte r i = getD r i 0
+use Rattle.fields.specs.Fields.{byte, camera1At, camera2At, poseAt, basisAt, dampingAt, pointAt, pointFields}
 
 -- the most bytes of a record: 512 points
 abbrev pub maxRecord : ℕ
 maxRecord = 34559
-
--- where the fields begin: each has three bytes before its payload
-abbrev pub camera1At : ℕ
-camera1At = 0
-
-abbrev pub camera2At : ℕ
-camera2At = 43
-
-abbrev pub poseAt : ℕ
-poseAt = 86
-
-abbrev pub basisAt : ℕ
-basisAt = 185
-
-abbrev pub dampingAt : ℕ
-dampingAt = 244
-
-abbrev pub pointsAt : ℕ
-pointsAt = 255
-
-abbrev pub pointAt : ℕ → ℕ
-pointAt i = pointsAt + 67 * i
 
 -- A field is broken if its tag or length is not the one due or it runs past the end.
 unfoldable pub isWhole : List ℕ → ℕ → ℕ → ℕ → Bool
@@ -47,10 +22,6 @@ isWhole r tag size start = leb (start + 3 + size) (length r) && eqb (byte r star
 -- row 15: the index is the byte where the broken field begins, which is the record's length if it ends there
 abbrev pub fieldRefused : List ℕ → ℕ → ℕ → ℕ → Refusal
 fieldRefused r tag size start = unless (isWhole r tag size start) (at Rows.recordForm 0 start)
-
--- how many point fields begin before the end
-abbrev pub pointFields : List ℕ → ℕ
-pointFields r = (length r - pointsAt + 66) / 67
 
 -- row 15 for the five fields before the points
 abbrev pub headRefused : List ℕ → Refusal

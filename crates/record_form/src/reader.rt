@@ -4,7 +4,7 @@ ghost use mathlib.Core.Path.{_≡_};
 ghost use Prim.Native.Nat.{_≤_};
 ghost use Rattle.record_form.specs.Form as Form;
 ghost use Rattle.record_form.specs.Reads as Reads;
-use crate::fields;
+use crate::form;
 use refusal::Refusal;
 
 pub(crate) struct Reader<'a> {
@@ -17,7 +17,7 @@ pub(crate) fn next_field<'a>(reader: Reader<'a>, tag: u8, size: usize) -> Refusa
     requires { ⌜ (reader .at ≤ 40000) × (size ≤ 100) ⌝ }
     ensures { λ r. ⌜ r ≡ Form.fieldRefused (now (reader .entry .«record»)) tag size (reader .entry .at) ⌝ }
 {
-    fields::test_field(reader.record, tag, size, reader.at)
+    form::test_field(reader.record, tag, size, reader.at)
 }
 
 // The reader behind that field

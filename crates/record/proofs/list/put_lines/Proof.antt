@@ -3,7 +3,7 @@ use mathlib.Core.Path.{ap, _∙_}
 use mathlib.Core.List.{_++_}
 use Prim.Native.Nat.{ℕ}
 use lib.Ieee.{Float}
-use Rattle.record_form.specs.Form.{pointFields}
+use Rattle.fields.specs.Fields.{pointFields}
 use Rattle.text.proofs.Puts.{put-put, put-same}
 use Rattle.record.specs.Run as Run
 use Rattle.record.specs.Run.{damping}

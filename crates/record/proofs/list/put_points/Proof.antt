@@ -1,6 +1,6 @@
 -- `record::list::put_points` meets its contract. Assumes nothing.
 use Rattle.text.proofs.Puts.{put-same}
-use Rattle.record_form.specs.Form.{pointFields}
+use Rattle.fields.specs.Fields.{pointFields}
 use Rattle.record.specs.Run.{run}
 use Rattle.record.specs.Lists.{pointLines}
 use Rattle.text.specs.Text.{Put}

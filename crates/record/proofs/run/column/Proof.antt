@@ -1,7 +1,7 @@
 -- `record::run::column` meets its contract. Assumes nothing.
 use mathlib.Core.Path.{_≡_, refl, sym, _∙_}
 use Rattle.number.proofs.Fill.{filled, fill-next}
-use Rattle.record_form.specs.Form.{pointFields}
+use Rattle.fields.specs.Fields.{pointFields}
 use Rattle.record.specs.Run.{column}
 use Rattle.record.proofs.Runs.{quotient, place, front-filled}
 use Prim.Native.Nat.{_/_, _%_, _-_, _≤_, _<_}

@@ -57,10 +57,10 @@ use Rattle.record_form.proofs.reader.next_field as next
 use Rattle.record_form.proofs.reader.next_field.Symbol as next-def
 use Rattle.record_form.proofs.reader.next_field.Symbol.{name as #next}
 use Rattle.record_form.proofs.reader.next_field.Met as next-thm
-use Rattle.record_form.proofs.fields.first_of as first
-use Rattle.record_form.proofs.fields.first_of.Symbol as first-def
-use Rattle.record_form.proofs.fields.first_of.Symbol.{name as #first}
-use Rattle.record_form.proofs.fields.first_of.Met as first-thm
+use Rattle.fields.proofs.first_of as first
+use Rattle.fields.proofs.first_of.Symbol as first-def
+use Rattle.fields.proofs.first_of.Symbol.{name as #first}
+use Rattle.fields.proofs.first_of.Met as first-thm
 use Rattle.record_form.proofs.reader.head_refused.Key.{name as #head}
 use Rattle.record_form.proofs.reader.head_refused as head
 use Rattle.record_form.proofs.reader.head_refused.Statement as stated
@@ -300,4 +300,4 @@ head-refused-spec 𝓤 H 𝓜 𝓖 𝓡 =
     (head-meets 𝓤 H (𝓖 .A) (givenOf 𝓤 H 𝓜 𝓖) (𝓜 .mem) (𝓡 .run) (tablesOf 𝓤 H 𝓜 (tables 𝓤 H 𝓜 𝓡 code.env))
     (cited 𝓤 H (Past 𝓤 H (𝓖 .A) (𝓜 .mem) (𝓡 .run)) 𝓜 𝓡 code.env #past past-def.routine code.calls-record-form·reader·past (past-thm.met 𝓤 H 𝓜 𝓖 𝓡))
     (cited 𝓤 H (Next 𝓤 H (𝓖 .A) (𝓜 .mem) (𝓡 .run)) 𝓜 𝓡 code.env #next next-def.routine code.calls-record-form·reader·next-field (next-thm.met 𝓤 H 𝓜 𝓖 𝓡))
-    (cited 𝓤 H (First 𝓤 H (𝓖 .A) (𝓜 .mem) (𝓡 .run)) 𝓜 𝓡 code.env #first first-def.routine code.calls-record-form·fields·first-of (first-thm.met 𝓤 H 𝓜 𝓖 𝓡)))
+    (cited 𝓤 H (First 𝓤 H (𝓖 .A) (𝓜 .mem) (𝓡 .run)) 𝓜 𝓡 code.env #first first-def.routine code.calls-fields·first-of (first-thm.met 𝓤 H 𝓜 𝓖 𝓡)))

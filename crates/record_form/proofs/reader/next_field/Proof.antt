@@ -49,10 +49,10 @@ use Rattle.record_form.specs.Form.{fieldRefused}
 use Rattle.record_form.specs.declared.reader.Reader.{Reader}
 use Rattle.record_form.proofs.reader.Reader as T
 use Rattle.record_form.proofs.reader.Reader.Laws as T′
-use Rattle.record_form.proofs.fields.test_field as test
-use Rattle.record_form.proofs.fields.test_field.Symbol as test-def
-use Rattle.record_form.proofs.fields.test_field.Symbol.{name as #test}
-use Rattle.record_form.proofs.fields.test_field.Met as test-thm
+use Rattle.record_form.proofs.form.test_field as test
+use Rattle.record_form.proofs.form.test_field.Symbol as test-def
+use Rattle.record_form.proofs.form.test_field.Symbol.{name as #test}
+use Rattle.record_form.proofs.form.test_field.Met as test-thm
 use Rattle.record_form.proofs.reader.next_field.Key.{name as #next}
 use Rattle.record_form.proofs.reader.next_field as next
 use Rattle.record_form.proofs.reader.next_field.Statement as stated
@@ -179,4 +179,4 @@ next-field-spec 𝓤 H 𝓜 𝓖 𝓡 =
     entered 𝓤 H (tripleOf 𝓤 H (𝓖 .A) next.signature (next.spec 𝓤 H (𝓖 .A) (𝓜 .mem) (𝓡 .run)))
     (tables 𝓤 H 𝓜 𝓡 code.env .C) (tables 𝓤 H 𝓜 𝓡 code.env .Λ) #next code.function (code.unfolded 𝓤 H 𝓜 𝓡)
     (next-meets 𝓤 H (𝓖 .A) (givenOf 𝓤 H 𝓜 𝓖) (𝓜 .mem) (𝓡 .run) (tablesOf 𝓤 H 𝓜 (tables 𝓤 H 𝓜 𝓡 code.env))
-    (cited 𝓤 H (Test 𝓤 H (𝓖 .A) (𝓜 .mem) (𝓡 .run)) 𝓜 𝓡 code.env #test test-def.routine code.calls-record-form·fields·test-field (test-thm.met 𝓤 H 𝓜 𝓖 𝓡)))
+    (cited 𝓤 H (Test 𝓤 H (𝓖 .A) (𝓜 .mem) (𝓡 .run)) 𝓜 𝓡 code.env #test test-def.routine code.calls-record-form·form·test-field (test-thm.met 𝓤 H 𝓜 𝓖 𝓡)))

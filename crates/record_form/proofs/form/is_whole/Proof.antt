@@ -1,9 +1,9 @@
--- `record_form::fields::is_whole` meets its contract. Assumes nothing.
+-- `record_form::form::is_whole` meets its contract. Assumes nothing.
 use Rattle.record_form.proofs.Forms.{too-short, whole-test}
 use native.Mathlib.Omega.{arith}
 use borrow.Author.Needs.{needs}
-use Rattle.record_form.proofs.fields.is_whole.Statement.{statement}
-use Rattle.record_form.proofs.fields.is_whole.Tie as tie
+use Rattle.record_form.proofs.form.is_whole.Statement.{statement}
+use Rattle.record_form.proofs.form.is_whole.Tie as tie
 
 returns : tie.Need-returns
 returns c = too-short _ _ _ _ (c .if1 .taken)

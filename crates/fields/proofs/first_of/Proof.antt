@@ -1,9 +1,9 @@
--- `record_form::fields::first_of` meets its contract. Assumes nothing.
+-- `fields::first_of` meets its contract. Assumes nothing.
 use mathlib.Core.Path.{refl}
 use Rattle.refusal.proofs.Scans.{stop, pass}
 use borrow.Author.Needs.{needs}
-use Rattle.record_form.proofs.fields.first_of.Statement.{statement}
-use Rattle.record_form.proofs.fields.first_of.Tie as tie
+use Rattle.fields.proofs.first_of.Statement.{statement}
+use Rattle.fields.proofs.first_of.Tie as tie
 
 returns : tie.Need-returns
 returns c = stop _ _ _ _ refl (c .before .is-none .ensures) (c .if1 .taken)

@@ -1,4 +1,4 @@
--- `record_form::fields::refused` meets its contract. Assumes nothing.
+-- `record_form::form::refused` meets its contract. Assumes nothing.
 use mathlib.Core.Bool.{Bool}
 use lib.Dec.{leb}
 use lib.ListN.{length}
@@ -9,8 +9,8 @@ use Rattle.record_form.specs.Form.{refused}
 use borrow.Author.Tests.{leb-true, not-false}
 use mathlib.Core.Path.{refl}
 use borrow.Author.Needs.{needs}
-use Rattle.record_form.proofs.fields.refused.Statement.{statement}
-use Rattle.record_form.proofs.fields.refused.Tie as tie
+use Rattle.record_form.proofs.form.refused.Statement.{statement}
+use Rattle.record_form.proofs.form.refused.Tie as tie
 
 abbrev short : tie.Else1 → Bool
 short c = leb (length (c .before .before .args .«record» .now)) 34559

@@ -1,10 +1,10 @@
--- `record_form::fields::test_field` meets its contract. Assumes nothing.
+-- `record_form::form::test_field` meets its contract. Assumes nothing.
 use Rattle.refusal.proofs.Scans.{bad, good}
 use mathlib.Core.Path.{sym, _∙_}
 use native.Mathlib.Omega.{arith}
 use borrow.Author.Needs.{needs}
-use Rattle.record_form.proofs.fields.test_field.Statement.{statement}
-use Rattle.record_form.proofs.fields.test_field.Tie as tie
+use Rattle.record_form.proofs.form.test_field.Statement.{statement}
+use Rattle.record_form.proofs.form.test_field.Tie as tie
 
 returns : tie.Need-returns
 returns c = c .at .ensures ∙ sym (bad _ _ _ (c .before .before .is-whole .ensures) (c .before .if1 .taken))

@@ -1,15 +1,16 @@
--- `record_form::fields::points_refused` meets its contract. Assumes nothing.
+-- `record_form::form::points_refused` meets its contract. Assumes nothing.
 use mathlib.Core.Path.{sym, ap, _∙_, _≡_}
 use Rattle.refusal.specs.First.{first}
 use Rattle.refusal.specs.Refused.{isNone}
 use Rattle.refusal.proofs.Scans.{Scanned, begins, ends, goes-on, leaves}
 use borrow.Author.Tests.{not-true, not-false}
-use Rattle.record_form.specs.Form.{pointAt, fieldRefused, pointFields}
+use Rattle.fields.specs.Fields.{pointAt, pointFields}
+use Rattle.record_form.specs.Form.{fieldRefused}
 use Prim.Native.Nat.{_-_}
 use native.Mathlib.Omega.{arith}
 use borrow.Author.Needs.{needs}
-use Rattle.record_form.proofs.fields.points_refused.Statement.{statement}
-use Rattle.record_form.proofs.fields.points_refused.Tie as tie
+use Rattle.record_form.proofs.form.points_refused.Statement.{statement}
+use Rattle.record_form.proofs.form.points_refused.Tie as tie
 
 abbrev Inv-loop : tie.InvT-loop
 Inv-loop «record» i₀ i-end i = (i-end ≡ pointFields «record») × Scanned (first (λ j. fieldRefused «record» 6 64 (pointAt j)) 0 (pointFields «record»)) (λ j. fieldRefused «record» 6 64 (pointAt j)) (pointFields «record») i

@@ -1,10 +1,10 @@
--- `record_form::fields::byte_at` meets its contract. Assumes nothing.
+-- `fields::byte_at` meets its contract. Assumes nothing.
 use mathlib.Core.Path.{refl, sym}
 use Prim.Native.Nat.{_≤_}
 use lib.ListN.{length, List·getD-eq-default}
 use native.Mathlib.Omega.{arith}
-use Rattle.record_form.proofs.fields.byte_at.Statement.{statement}
-use Rattle.record_form.proofs.fields.byte_at.Tie as tie
+use Rattle.fields.proofs.byte_at.Statement.{statement}
+use Rattle.fields.proofs.byte_at.Tie as tie
 
 returns : tie.Need-returns
 returns c = (refl, omega (arith, c .shared-slice-known .given (c .before .before .args .at)))
