@@ -15,8 +15,8 @@ use lib.Ieee.{Float, nan}
 use Rattle.number.specs.Vectors.{_!_}
 use Rattle.refusal.specs.Refused.{isNone}
 use Rattle.projection.specs.declared.Projected.{Projected}
-use Rattle.checks.specs.declared.Rig.{Rig}
-use Rattle.checks.specs.Problem.{triple, pair, observation, project}
+use Rattle.correspondences.specs.declared.Rig.{Rig}
+use Rattle.correspondences.specs.Problem.{triple, pair, observation, project}
 
 -- by quotient and remainder
 pub multiple : (l e n : ℕ) → 0 < e → (eqb (l / e) n && eqb (l % e) 0) ≡ eqb l (e * n)

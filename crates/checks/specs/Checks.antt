@@ -15,8 +15,8 @@ use Rattle.refusal.specs.First.{unless, firstOf, first}
 use Rattle.refusal.specs.declared.Refusal.{Refusal}
 use Rattle.point_block.specs.Lone.{goodDamping}
 use Rattle.views.specs.Views.{goodDeviation}
-use Rattle.checks.specs.declared.Rig.{Rig}
-use Rattle.checks.specs.Problem.{Problem, count, triple, pair, observation, project}
+use Rattle.correspondences.specs.declared.Rig.{Rig}
+use Rattle.correspondences.specs.Problem.{Problem, count, triple, pair, observation, project}
 
 -- a problem has 5 to 65,535 points
 abbrev pub minPoints : ℕ

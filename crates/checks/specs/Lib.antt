@@ -1,3 +1,2 @@
--- What a whole step is lent, and the checks before any sum: optimizer.rs and residual.rs.
-pub mod Problem
+-- The checks before any sum: optimizer.rs and residual.rs.
 pub mod Checks

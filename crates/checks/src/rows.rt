@@ -3,14 +3,13 @@
 
 // Rows 1 to 9, in that order.
 ghost use mathlib.Core.Path.{_≡_};
-ghost use Prim.Native.Nat.{_<_, _*_};
+ghost use Prim.Native.Nat.{_<_, _*_, _+_};
 ghost use lib.Dec.{eqb};
 ghost use lib.ListN.{length};
 ghost use Rattle.refusal.specs.First as First;
+ghost use Rattle.correspondences.specs.Problem as Problem;
 ghost use Rattle.checks.specs.Checks as Checks;
-ghost use Rattle.checks.specs.Problem as Problem;
-use crate::Rig;
-use crate::correspondences;
+use correspondences::Rig;
 use refusal::Refusal;
 
 const MINIMUM_POINTS: u32 = 5;
@@ -158,7 +157,7 @@ fn projections_refused<'a>(
     'points: for i in 0..n {
         let point = correspondences::point_at(points, i);
         for view in 1..=2u32 {
-            let part = correspondences::observation(view1, view2, view, i);
+            let part = observation(view1, view2, view, i);
             let seen = correspondences::pair_at(part, 0);
             let projected = correspondences::project(rig, view, seen, point);
             let refusal = projected.refusal;
@@ -169,4 +168,17 @@ fn projections_refused<'a>(
         }
     }
     place
+}
+
+// The part of view 1 or 2 that holds the two numbers of a point
+fn observation<'a>(view1: &'a [f64], view2: &'a [f64], view: u32, i: u32) -> &'a [f64]
+    requires { ⌜ (2 * i + 1 < length (now view1)) × (2 * i + 1 < length (now view2)) ⌝ }
+    ensures { λ r. ⌜ now r ≡ Problem.observation (now (view1 .entry)) (now (view2 .entry)) view i ⌝ }
+{
+    let at = 2 * (i as usize);
+    if view == 1 {
+        &view1[at..at + 2]
+    } else {
+        &view2[at..at + 2]
+    }
 }

@@ -3,7 +3,7 @@
 ghost use mathlib.Core.Path.{_≡_};
 ghost use Prim.Native.Nat.{_≤_};
 ghost use lib.ListN.{length};
-use checks::Rig;
+use correspondences::Rig;
 use optimizer::StepResult;
 use projection::PinholeCamera;
 use views::Pose;

@@ -11,8 +11,8 @@ use Rattle.refusal.specs.Refused.{none}
 use Rattle.projection.specs.declared.PinholeCamera.{PinholeCamera}
 use Rattle.views.specs.declared.Correspondence.{Correspondence}
 use Rattle.linearization.specs.declared.linearize.LocalLinearization.{LocalLinearization}
+use Rattle.correspondences.specs.declared.Rig.{Rig}
 use Rattle.reduced_system.specs.declared.ReducedSystem.{ReducedSystem}
-use Rattle.checks.specs.declared.Rig.{Rig}
 
 abbrev pub camera : List Float → PinholeCamera
 camera x = record { fx = x ! 0; fy = x ! 1; cx = x ! 2; cy = x ! 3; skew = x ! 4 }

@@ -4,7 +4,7 @@ ghost use mathlib.Core.Path.{_≡_};
 ghost use lib.ListN.{getD};
 ghost use Rattle.slices.specs.Slices as Slices;
 ghost use Rattle.flat.specs.Flat as Flat;
-use checks::Rig;
+use correspondences::Rig;
 use linearization::LocalLinearization;
 use projection::PinholeCamera;
 use reduced_system::ReducedSystem;

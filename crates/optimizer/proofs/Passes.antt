@@ -19,9 +19,9 @@ use Rattle.point_step.specs.PointStep.{stepOf, stepped, notStepped, stepOfTerms
 use Rattle.linearization.specs.declared.linearize.LocalLinearization.{LocalLinearization}
 use Rattle.views.specs.declared.Correspondence.{Correspondence}
 use Rattle.point_step.specs.declared.PointStep.{PointStep}
+use Rattle.correspondences.specs.Problem.{Problem, count, correspondenceAt}
 use Rattle.reduced_system.specs.declared.ReducedSystem.{ReducedSystem}
 use Rattle.reduced_system.specs.declared.Added.{Added}
-use Rattle.checks.specs.Problem.{Problem, count, correspondenceAt}
 use Rattle.optimizer.specs.Step.{blockOf, systemTo, reducedSystem, pointStepOf, stepAt, stepsTo, squaredNorm, sumsTo}
 
 abbrev correspondence : Problem → ℕ → Correspondence

@@ -23,7 +23,7 @@ use Rattle.schur.specs.Calls.{Inputs, Call, atDamping, after, factors, smallRco
 use Rattle.linearization.specs.declared.linearize.LocalLinearization.{LocalLinearization}
 use Rattle.reduced_system.specs.declared.ReducedSystem.{ReducedSystem}
 use Rattle.schur.proofs.Claim.{claim}
-use Rattle.checks.specs.Problem.{Problem, count, correspondenceAt}
+use Rattle.correspondences.specs.Problem.{Problem, count, correspondenceAt}
 use Rattle.checks.proofs.Passed.{both-hold}
 use Rattle.optimizer.specs.Step.{blockOf, blockAt, systemTo, reducedSystem, pointStepOf, stepAt}
 

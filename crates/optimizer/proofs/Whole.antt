@@ -17,7 +17,7 @@ use Rattle.reduced_system.specs.Model.{isValid}
 use Rattle.reduced_system.specs.declared.ReducedSystem.{ReducedSystem}
 use Rattle.optimizer.specs.declared.StepResult.{StepResult}
 use Rattle.optimizer.specs.declared.point_steps.Sums.{Sums}
-use Rattle.checks.specs.Problem.{Problem, count}
+use Rattle.correspondences.specs.Problem.{Problem, count}
 use Rattle.checks.specs.Checks as Checks
 use Rattle.pose_step.specs.PoseStep.{poseStep}
 use Rattle.optimizer.specs.Step.{reducedSystem, noSystem, reduced, solvedOf, poseStepOf, stepsTo, sumsTo, finished, notStepped, stepped, solvedStep, refused, step, written, Done}

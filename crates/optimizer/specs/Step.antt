@@ -17,9 +17,9 @@ use Rattle.refusal.specs.declared.Refusal.{Refusal}
 use Rattle.linearization.specs.Linearize.{linearizePoint}
 use Rattle.linearization.specs.declared.linearize.LocalLinearization.{LocalLinearization}
 use Rattle.views.specs.declared.Correspondence.{Correspondence}
-use Rattle.checks.specs.Problem.{Problem, count, correspondenceAt}
+use Rattle.correspondences.specs.Problem.{Problem, count, correspondenceAt}
 use Rattle.checks.specs.Checks as Checks
-use Rattle.checks.specs.declared.Rig.{Rig}
+use Rattle.correspondences.specs.declared.Rig.{Rig}
 use Rattle.solver.specs.Solver.{solvePositiveDefinite}
 use Rattle.solver.specs.declared.Solved.{Solved}
 use Rattle.schur.specs.System.{add}

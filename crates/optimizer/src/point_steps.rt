@@ -6,10 +6,10 @@ ghost use mathlib.Core.Path.{_≡_};
 ghost use Prim.Native.Nat.{_≤_, _*_};
 ghost use lib.ListN.{length};
 ghost use Rattle.checks.specs.Checks as Checks;
-ghost use Rattle.checks.specs.Problem as Problem;
+ghost use Rattle.correspondences.specs.Problem as Problem;
 ghost use Rattle.linearization.specs.Linearize as Linearize;
 ghost use Rattle.optimizer.specs.Step as Steps;
-use checks::Rig;
+use correspondences::Rig;
 use linearization::PointTerms;
 use point_step::PointStep;
 use views::Correspondence;
@@ -38,7 +38,7 @@ pub(crate) fn write_steps(
     let mut squared = 0.0;
     let mut damping_norm = 0.0;
     for i in 0..inverse_deviations.len() {
-        let correspondence = checks::correspondence_at(
+        let correspondence = correspondences::correspondence_at(
             points,
             view1,
             view2,

@@ -6,9 +6,9 @@ ghost use mathlib.Core.Path.{_≡_};
 ghost use Prim.Native.Nat.{_≤_};
 ghost use lib.ListN.{length};
 ghost use Rattle.checks.specs.Checks as Checks;
-ghost use Rattle.checks.specs.Problem as Problem;
+ghost use Rattle.correspondences.specs.Problem as Problem;
 ghost use Rattle.optimizer.specs.Step as Steps;
-use checks::Rig;
+use correspondences::Rig;
 use linearization::LocalLinearization;
 use reduced_system::ReducedSystem;
 use refusal::Refusal;
@@ -78,7 +78,7 @@ pub(crate) fn damped_system(
 {
     let mut system = ReducedSystem::new();
     for i in 0..inverse_deviations.len() {
-        let correspondence = checks::correspondence_at(
+        let correspondence = correspondences::correspondence_at(
             points,
             view1,
             view2,

@@ -6,12 +6,12 @@ ghost use mathlib.Core.Path.{_≡_};
 ghost use Prim.Native.Nat.{_≤_, _*_};
 ghost use lib.ListN.{length};
 ghost use Rattle.checks.specs.Checks as Checks;
-ghost use Rattle.checks.specs.Problem as Problem;
+ghost use Rattle.correspondences.specs.Problem as Problem;
 ghost use Rattle.optimizer.specs.Step as Steps;
 use crate::StepResult;
 use crate::point_steps;
 use crate::reduced;
-use checks::Rig;
+use correspondences::Rig;
 use reduced_system::ReducedSystem;
 use refusal::Refusal;
 

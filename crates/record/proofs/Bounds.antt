@@ -14,9 +14,9 @@ use Rattle.number.proofs.Fill.{length-tabulate}
 use Rattle.refusal.specs.Refused.{isNone}
 use Rattle.refusal.specs.declared.Refusal.{Refusal}
 use Rattle.refusal.proofs.Scans.{after-none}
+use Rattle.correspondences.specs.Problem.{Problem, count}
 use Rattle.reduced_system.specs.Model.{isValid}
 use Rattle.reduced_system.specs.declared.ReducedSystem.{ReducedSystem}
-use Rattle.checks.specs.Problem.{Problem, count}
 use Rattle.checks.specs.Checks as Checks
 use Rattle.optimizer.specs.Step.{blockAt, reducedSystem}
 use Rattle.checks.proofs.Passed.{checked}

@@ -6,8 +6,8 @@ use Prim.Native.Nat.{ℕ}
 use borrow.Author.Tests.{not-true, not-false}
 use Rattle.refusal.specs.Refused.{none, isNone}
 use Rattle.refusal.specs.declared.Refusal.{Refusal}
+use Rattle.correspondences.specs.Problem.{Problem}
 use Rattle.reduced_system.specs.declared.ReducedSystem.{ReducedSystem}
-use Rattle.checks.specs.Problem.{Problem}
 use Rattle.checks.specs.Checks as Checks
 use Rattle.optimizer.specs.Step.{reducedSystem, noSystem, reduced}
 use Rattle.optimizer.specs.declared.reduced.Reduced.{Reduced}

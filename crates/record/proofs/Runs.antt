@@ -16,8 +16,8 @@ use Rattle.number.proofs.Fill.{length-tabulate, filled}
 use Rattle.projection.specs.declared.PinholeCamera.{PinholeCamera}
 use Rattle.views.specs.declared.Correspondence.{Correspondence}
 use Rattle.linearization.specs.declared.linearize.LocalLinearization.{LocalLinearization}
-use Rattle.checks.specs.declared.Rig.{Rig}
-use Rattle.checks.specs.Problem.{Problem, problem, correspondenceAt}
+use Rattle.correspondences.specs.declared.Rig.{Rig}
+use Rattle.correspondences.specs.Problem.{Problem, problem, correspondenceAt}
 use Rattle.optimizer.specs.Step.{reduced, blockOf, blockAt}
 use Rattle.optimizer.specs.declared.reduced.Reduced.{Reduced}
 use Rattle.fields.specs.Fields.{camera1At, camera2At, poseAt, basisAt, pointFields}

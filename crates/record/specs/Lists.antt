@@ -9,8 +9,8 @@ use lib.Ieee.{isNan}
 use Rattle.refusal.specs.Refused.{isNone}
 use Rattle.refusal.specs.First.{orElse}
 use Rattle.refusal.specs.declared.Refusal.{Refusal}
+use Rattle.correspondences.specs.Problem.{Problem}
 use Rattle.reduced_system.specs.declared.ReducedSystem.{ReducedSystem}
-use Rattle.checks.specs.Problem.{Problem}
 use Rattle.checks.specs.Checks as Checks
 use Rattle.optimizer.specs.Step.{blockAt, reducedSystem}
 use Rattle.fields.specs.Fields.{pointFields}

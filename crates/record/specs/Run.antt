@@ -6,8 +6,8 @@ use lib.Ieee.{Float, binary64, ofBits}
 use Rattle.number.specs.Vectors.{tabulate}
 use Rattle.projection.specs.declared.PinholeCamera.{PinholeCamera}
 use Rattle.views.specs.declared.Correspondence.{Correspondence}
-use Rattle.checks.specs.declared.Rig.{Rig}
-use Rattle.checks.specs.Problem.{Problem, problem}
+use Rattle.correspondences.specs.declared.Rig.{Rig}
+use Rattle.correspondences.specs.Problem.{Problem, problem}
 use Rattle.fields.specs.Fields.{byte, camera1At, camera2At, poseAt, basisAt, dampingAt, pointsAt, pointFields}
 use Rattle.record_form.specs.Form.{Formed}
 

@@ -9,7 +9,7 @@ ghost use Rattle.record.specs.Lists as Lists;
 ghost use Rattle.record.specs.Run as Run;
 ghost use Rattle.text.specs.Text as Text;
 use crate::run;
-use checks::Rig;
+use correspondences::Rig;
 use reduced_system::ReducedSystem;
 
 // No list has more bytes.

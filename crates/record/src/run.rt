@@ -7,7 +7,7 @@ ghost use Rattle.optimizer.specs.Step as Steps;
 ghost use Rattle.fields.specs.Fields as Fields;
 ghost use Rattle.record_form.specs.Form as Form;
 ghost use Rattle.record.specs.Run as Run;
-use checks::Rig;
+use correspondences::Rig;
 use linearization::LocalLinearization;
 use projection::PinholeCamera;
 use views::Correspondence;

@@ -8,10 +8,10 @@ use borrow.Author.Tests.{not-true, not-false}
 use lib.ListN.{length, set}
 use lib.Ieee.{Float}
 use Rattle.refusal.specs.declared.Refusal.{Refusal}
+use Rattle.correspondences.specs.Problem.{Problem}
 use Rattle.reduced_system.specs.declared.ReducedSystem.{ReducedSystem}
-use Rattle.checks.specs.Problem.{Problem}
 use Rattle.optimizer.specs.Step as Step
-use Rattle.checks.specs.declared.Rig.{Rig}
+use Rattle.correspondences.specs.declared.Rig.{Rig}
 use Rattle.optimizer.specs.declared.StepResult.{StepResult}
 use Rattle.flat.specs.Flat.{rig, systemNumbers, systemCounts}
 use Rattle.slices.specs.Answers.{code, lengthsCode, stored, long}

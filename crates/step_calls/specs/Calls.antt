@@ -8,9 +8,9 @@ use lib.Ieee.{Float}
 use Rattle.refusal.specs.Refused.{none}
 use Rattle.refusal.specs.declared.Refusal.{Refusal}
 use Rattle.schur.specs.System as System
+use Rattle.correspondences.specs.Problem.{Problem}
 use Rattle.reduced_system.specs.Model as Model
 use Rattle.reduced_system.specs.declared.ReducedSystem.{ReducedSystem}
-use Rattle.checks.specs.Problem.{Problem}
 use Rattle.pose_step.specs.PoseStep as PoseStep
 use Rattle.optimizer.specs.Step as Step
 use Rattle.optimizer.specs.declared.StepResult.{StepResult}

@@ -1,7 +1,7 @@
 // One whole step of the two-view problem, and the limit of the pose step.
 ghost use mathlib.Core.Path.{_≡_};
 ghost use lib.ListN.{length};
-ghost use Rattle.checks.specs.Problem as Problem;
+ghost use Rattle.correspondences.specs.Problem as Problem;
 ghost use Rattle.slices.specs.Answers as Answers;
 ghost use Rattle.flat.specs.Flat as Flat;
 ghost use Rattle.step_calls.specs.Calls as Calls;

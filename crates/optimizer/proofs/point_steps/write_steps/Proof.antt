@@ -2,7 +2,7 @@
 use lib.ListN.{length, set}
 use lib.Seq.{lt-length-set}
 use Rattle.point_step.specs.declared.PointStep.{PointStep}
-use Rattle.checks.specs.Problem.{problem}
+use Rattle.correspondences.specs.Problem.{problem}
 use Rattle.optimizer.specs.Step.{sumsTo}
 use Rattle.optimizer.proofs.Passes.{stepped-at, Filled, room-none, room-length, room-next, room-full, sums-none, squared-next, norm-next, both-sums}
 use Rattle.optimizer.specs.declared.point_steps.Sums.{Sums}

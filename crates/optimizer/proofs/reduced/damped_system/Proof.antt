@@ -1,6 +1,6 @@
 -- `optimizer::reduced::damped_system` meets its contract. Assumes nothing.
 use lib.ListN.{length}
-use Rattle.checks.specs.Problem.{problem}
+use Rattle.correspondences.specs.Problem.{problem}
 use Rattle.optimizer.specs.Step.{systemTo}
 use Rattle.optimizer.proofs.Passes.{system-none, system-next, system-all}
 use mathlib.Core.Path.{_≡_, refl}

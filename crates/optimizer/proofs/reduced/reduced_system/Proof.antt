@@ -1,5 +1,5 @@
 -- `optimizer::reduced::reduced_system` meets its contract. Assumes nothing.
-use Rattle.checks.specs.Problem.{problem}
+use Rattle.correspondences.specs.Problem.{problem}
 use Rattle.checks.proofs.Passed.{checked}
 use Rattle.optimizer.proofs.Whole.{passed, not-reduced, reduces}
 use borrow.Author.Needs.{needs}

@@ -1,6 +1,6 @@
 -- `optimizer::whole_step::solved_step` meets its contract. Assumes nothing.
 use Rattle.optimizer.proofs.Whole.{not-valid, not-solved, solves}
-use Rattle.checks.specs.Problem.{problem}
+use Rattle.correspondences.specs.Problem.{problem}
 use borrow.Author.Needs.{needs}
 use Rattle.optimizer.proofs.whole_step.solved_step.Statement.{statement}
 use Rattle.optimizer.proofs.whole_step.solved_step.Tie as tie

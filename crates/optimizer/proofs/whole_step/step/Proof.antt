@@ -2,7 +2,7 @@
 use mathlib.Core.Path.{_∙_}
 use Rattle.checks.proofs.Passed.{checked}
 use Rattle.optimizer.proofs.Whole.{passed, wrong-room, checks-refused, done}
-use Rattle.checks.specs.Problem.{problem}
+use Rattle.correspondences.specs.Problem.{problem}
 use borrow.Author.Needs.{needs}
 use Rattle.optimizer.proofs.whole_step.step.Statement.{statement}
 use Rattle.optimizer.proofs.whole_step.step.Tie as tie

@@ -4,7 +4,7 @@ use lib.ListN.{length}
 use Rattle.linearization.specs.Linearize as Linearize
 use Rattle.views.specs.declared.Correspondence.{Correspondence}
 use Rattle.linearization.specs.declared.linearize.LocalLinearization.{LocalLinearization}
-use Rattle.checks.specs.declared.Rig.{Rig}
+use Rattle.correspondences.specs.declared.Rig.{Rig}
 use Rattle.flat.specs.Flat.{rig, blockNumbers}
 use Rattle.pixel_step.specs.Interface.{linearizePoint}
 use Rattle.slices.proofs.Laws.{too-short, answers, three-fit}

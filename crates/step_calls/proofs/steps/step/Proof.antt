@@ -1,8 +1,8 @@
 -- `step_calls::steps::step` meets its contract. Assumes nothing.
 use mathlib.Core.Path.{_≡_}
 use lib.ListN.{length}
-use Rattle.checks.specs.Problem.{problem}
-use Rattle.checks.specs.declared.Rig.{Rig}
+use Rattle.correspondences.specs.Problem.{problem}
+use Rattle.correspondences.specs.declared.Rig.{Rig}
 use Rattle.slices.proofs.Laws.{three-fit}
 use Rattle.step_calls.proofs.Laws.{too-short-step, steps}
 use borrow.Author.Needs.{needs}

@@ -10,7 +10,7 @@ use Rattle.projection.specs.Pose.{rotate, cameraPoint}
 use Rattle.projection.specs.Projection.{pixelProjection}
 use Rattle.projection.specs.declared.Projected.{Projected}
 use Rattle.views.specs.declared.Correspondence.{Correspondence}
-use Rattle.checks.specs.declared.Rig.{Rig}
+use Rattle.correspondences.specs.declared.Rig.{Rig}
 
 -- three numbers a point, two a point in each view, one a point
 pub record Problem : Type 0 where

@@ -1,10 +1,10 @@
--- `checks::correspondences::project` meets its contract. Assumes nothing.
-use Rattle.checks.specs.Problem.{project}
+-- `correspondences::project` meets its contract. Assumes nothing.
+use Rattle.correspondences.specs.Problem.{project}
 use borrow.Author.Tests.{eq-eqb, ne-eqb}
 use mathlib.Core.Path.{refl}
 use borrow.Author.Needs.{needs}
-use Rattle.checks.proofs.correspondences.project.Statement.{statement}
-use Rattle.checks.proofs.correspondences.project.Tie as tie
+use Rattle.correspondences.proofs.project.Statement.{statement}
+use Rattle.correspondences.proofs.project.Tie as tie
 
 returns : tie.Need-returns
 unfolding project

@@ -1,8 +1,8 @@
--- `checks::correspondences::correspondence_at` meets its contract. Assumes nothing.
+-- `correspondences::correspondence_at` meets its contract. Assumes nothing.
 use mathlib.Core.Path.{refl}
 use borrow.Author.Needs.{needs}
-use Rattle.checks.proofs.correspondences.correspondence_at.Statement.{statement}
-use Rattle.checks.proofs.correspondences.correspondence_at.Tie as tie
+use Rattle.correspondences.proofs.correspondence_at.Statement.{statement}
+use Rattle.correspondences.proofs.correspondence_at.Tie as tie
 
 returns : tie.Need-returns
 returns c =

@@ -1,17 +1,24 @@
 // SPDX-FileCopyrightText: 2026 Pierre Moulon and OpenMVG Rust contributors
 // SPDX-License-Identifier: MIT OR Apache-2.0
 
-// One correspondence of the lent lists: its point, what each view saw of it, and how a view projects it. Beyond the end
-// of a list stands a NaN, as in the definitions.
+// One correspondence of the lent lists: its point, what each view saw of it, and how a view projects it; beyond the end
+// of a list stands a NaN, as in the definitions. From kernel/two_view/optimizer.rs, residual.rs.
 ghost use mathlib.Core.Path.{_≡_};
-ghost use Prim.Native.Nat.{_<_, _*_, _+_};
-ghost use lib.ListN.{length};
-ghost use Rattle.checks.specs.Problem as Problem;
-use crate::Rig;
+ghost use Rattle.correspondences.specs.Problem as Problem;
+use projection::PinholeCamera;
 use projection::Projected;
 use views::Correspondence;
+use views::Pose;
 
-pub(crate) fn point_at(points: &[f64], i: u32) -> [f64; 3]
+// The two cameras, and how the second one sits
+pub struct Rig {
+    pub camera1: PinholeCamera,
+    pub camera2: PinholeCamera,
+    pub pose: Pose,
+}
+
+// A point of three numbers. One test covers all three, for speed.
+pub fn point_at(points: &[f64], i: u32) -> [f64; 3]
     ensures { λ r. ⌜ r ≡ Problem.triple (now (points .entry)) i ⌝ }
 {
     let at = 3 * (i as usize);
@@ -25,7 +32,8 @@ pub(crate) fn point_at(points: &[f64], i: u32) -> [f64; 3]
     ]
 }
 
-pub(crate) fn pair_at(view: &[f64], i: u32) -> [f64; 2]
+// The two numbers of a point in a view. One test covers both, for speed.
+pub fn pair_at(view: &[f64], i: u32) -> [f64; 2]
     ensures { λ r. ⌜ r ≡ Problem.pair (now (view .entry)) i ⌝ }
 {
     let at = 2 * (i as usize);
@@ -33,19 +41,6 @@ pub(crate) fn pair_at(view: &[f64], i: u32) -> [f64; 2]
         return [view[at], view[at + 1]];
     }
     [number::entry(view, at), number::entry(view, at + 1)]
-}
-
-// The part of view 1 or 2 that holds the two numbers of a point
-pub(crate) fn observation<'a>(view1: &'a [f64], view2: &'a [f64], view: u32, i: u32) -> &'a [f64]
-    requires { ⌜ (2 * i + 1 < length (now view1)) × (2 * i + 1 < length (now view2)) ⌝ }
-    ensures { λ r. ⌜ now r ≡ Problem.observation (now (view1 .entry)) (now (view2 .entry)) view i ⌝ }
-{
-    let at = 2 * (i as usize);
-    if view == 1 {
-        &view1[at..at + 2]
-    } else {
-        &view2[at..at + 2]
-    }
 }
 
 // The correspondence at an index, which may lie beyond the end
@@ -67,7 +62,7 @@ pub fn correspondence_at(
 }
 
 // A point as view 1 or 2 sees it
-pub(crate) fn project(rig: Rig, view: u32, observation: [f64; 2], point: [f64; 3]) -> Projected
+pub fn project(rig: Rig, view: u32, observation: [f64; 2], point: [f64; 3]) -> Projected
     ensures { λ r. ⌜ r ≡ Problem.project rig view observation point ⌝ }
 {
     let pose = rig.pose;

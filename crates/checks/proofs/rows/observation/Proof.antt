@@ -1,10 +1,10 @@
--- `checks::correspondences::observation` meets its contract. Assumes nothing.
+-- `checks::rows::observation` meets its contract. Assumes nothing.
 use borrow.Author.Tests.{eq-eqb, ne-eqb}
 use Rattle.checks.proofs.Parts.{pair-part}
 use mathlib.Core.Path.{refl}
 use native.Mathlib.Omega.{arith}
-use Rattle.checks.proofs.correspondences.observation.Statement.{statement}
-use Rattle.checks.proofs.correspondences.observation.Tie as tie
+use Rattle.checks.proofs.rows.observation.Statement.{statement}
+use Rattle.checks.proofs.rows.observation.Tie as tie
 
 returns : tie.Need-returns
 returns c = rw (eq-eqb _ _ (c .before .if1 .taken)) (pair-part _ _ _ (c .before .before .pre .0) refl)
