@@ -24,7 +24,7 @@ use Rattle.optimizer.proofs.PointSteps.{weak-at-most, costs-are-numbers}
 use Rattle.hex.specs.Hex.{digits}
 use Rattle.fields.specs.Fields.{pointFields}
 use Rattle.record_form.specs.Form as Form
-use Rattle.record.specs.Run.{column, run, damping}
+use Rattle.run.specs.Run.{column, run, damping}
 use Rattle.text.specs.Text.{space, lineFeed, digit, withoutZeros, decimal, pasted, Put}
 use Rattle.lines.specs.Lines.{bitsThen, runLine, letter, pointLine, validity, verdict, sumLine, refusedLine}
 use Rattle.record.specs.Lists.{pointLines, linesOf, refused, list, maxList, NeverNan, Wrote}

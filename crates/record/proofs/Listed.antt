@@ -13,7 +13,7 @@ use Rattle.optimizer.specs.Step.{reducedSystem, noSystem, reduced}
 use Rattle.optimizer.specs.declared.reduced.Reduced.{Reduced}
 use Rattle.record_form.specs.Form as Form
 use Rattle.lines.specs.Lines.{refusedLine}
-use Rattle.record.specs.Run.{run}
+use Rattle.run.specs.Run.{run}
 use Rattle.record.specs.Lists.{linesOf, refused, list}
 
 -- a system that is refused has the checks' refusal, and one that is not is the run's

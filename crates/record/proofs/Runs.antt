@@ -1,6 +1,6 @@
 -- The numbers of a record by point and by column, and the lines of its points. Assumes nothing.
 use mathlib.Core.Path.{_≡_, refl, sym, ap, _∙_}
-use mathlib.Core.List.{List, [], _∷_}
+use mathlib.Core.List.{List}
 use Prim.Native.Nat.{ℕ, zero, suc, _+_, _*_, _/_, _%_, _<_}
 use native.Mathlib.Nat.{div-add-mod', mod-lt, mul-comm, mul-le-mul-right}
 use native.Mathlib.Numerals.{add-one}
@@ -13,15 +13,14 @@ use lib.Seq.{take-at}
 use lib.Ieee.{Float}
 use Rattle.number.specs.Vectors.{_!_, tabulate}
 use Rattle.number.proofs.Fill.{length-tabulate, filled}
-use Rattle.projection.specs.declared.PinholeCamera.{PinholeCamera}
 use Rattle.views.specs.declared.Correspondence.{Correspondence}
 use Rattle.linearization.specs.declared.linearize.LocalLinearization.{LocalLinearization}
 use Rattle.correspondences.specs.declared.Rig.{Rig}
 use Rattle.correspondences.specs.Problem.{Problem, problem, correspondenceAt}
 use Rattle.optimizer.specs.Step.{reduced, blockOf, blockAt}
 use Rattle.optimizer.specs.declared.reduced.Reduced.{Reduced}
-use Rattle.fields.specs.Fields.{camera1At, camera2At, poseAt, basisAt, pointFields}
-use Rattle.record.specs.Run.{numberAt, twoAt, threeAt, numbersAt, cameraAt, rig, damping, column, run, correspondenceOf}
+use Rattle.fields.specs.Fields.{pointFields}
+use Rattle.run.specs.Run.{numberAt, rig, damping, column, run, correspondenceOf}
 use Rattle.lines.specs.Lines.{letter, pointLine}
 use Rattle.record.specs.Lists.{pointLines}
 use Rattle.text.specs.Text.{Put}
@@ -103,28 +102,3 @@ pub reduced-is : (r : List ℕ) (p v w d : List Float) (x : Rig) (y : Float) (lp
     → x ≡ rig r → y ≡ damping r → s ≡ reduced (problem p v w d x y) → s ≡ reduced (run r)
 unfolding run
 reduced-is r p v w d x y lp lv lw ld s e₁ e₂ e₃ e₄ e₅ e₆ e₇ e₈ e₉ e q = q ∙ rw (e₁, e₂, e₃, e₄, e₅, e₆, e₇, e₈, e₉, e) refl
-
--- numbers that were read one by one
-module _ (r : List ℕ) (at : ℕ) where
-  pub two-are : (a b : Float) → a ≡ numberAt r at → b ≡ numberAt r (at + 8) → a ∷ b ∷ [] ≡ twoAt r at
-  two-are a b e f = rw (e, f) refl
-
-  pub three-are : (a b c : Float) → a ≡ numberAt r at → b ≡ numberAt r (at + 8) → c ≡ numberAt r (at + 16) → a ∷ b ∷ c ∷ [] ≡ threeAt r at
-  three-are a b c e f g = rw (e, f, g) refl
-
-  pub camera-is : (fx fy cx cy skew : Float) → fx ≡ numberAt r (at + 3) → fy ≡ numberAt r (at + 11) → cx ≡ numberAt r (at + 19) → cy ≡ numberAt r (at + 27) → skew ≡ numberAt r (at + 35)
-      → _≡_ {A = PinholeCamera} (record { fx = fx; fy = fy; cx = cx; cy = cy; skew = skew }) (cameraAt r at)
-  unfolding cameraAt
-  camera-is fx fy cx cy skew e f g h i = rw (e, f, g, h, i) refl
-
-pub correspondence-is : (r : List ℕ) (i : ℕ) (point view1 view2 : List Float) (deviation : Float) → point ≡ threeAt r (258 + 67 * i) → view1 ≡ twoAt r (258 + 67 * i + 24)
-    → view2 ≡ twoAt r (258 + 67 * i + 40) → deviation ≡ numberAt r (258 + 67 * i + 56)
-    → _≡_ {A = Correspondence} (record { point = point; view1 = view1; view2 = view2; «inverse_deviation» = deviation }) (correspondenceOf r i)
-correspondence-is r i point view1 view2 deviation e f g h = rw (e, f, g, h) refl
-
--- the numbers of fields 1 to 4 are the rig
-pub rig-is : (r : List ℕ) (x y : PinholeCamera) (rotation translation basis : List Float) (baseline : Float) → x ≡ cameraAt r camera1At → y ≡ cameraAt r camera2At
-    → rotation ≡ numbersAt r (poseAt + 3) 9 → translation ≡ threeAt r (poseAt + 75) → basis ≡ numbersAt r (basisAt + 3) 6 → baseline ≡ numberAt r (basisAt + 51)
-    → _≡_ {A = Rig} (record { camera1 = x; camera2 = y; pose = record { rotation = rotation; translation = translation; basis = basis; baseline = baseline } }) (rig r)
-unfolding rig
-rig-is r x y rotation translation basis baseline e f g h i j = rw (e, f, g, h, i, j) refl

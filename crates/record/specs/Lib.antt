@@ -1,3 +1,2 @@
--- Document 01, "Run record and its list".
-pub mod Run
+-- Document 01, "Run record and its list": the list.
 pub mod Lists

@@ -5,20 +5,25 @@ use mathlib.Core.Bool.{false, cond}
 use mathlib.Core.List.{List, [], _++_}
 use lib.Dec.{leb}
 use lib.ListN.{length}
-use lib.Ieee.{isNan}
+use lib.Ieee.{Float, isNan}
 use Rattle.refusal.specs.Refused.{isNone}
 use Rattle.refusal.specs.First.{orElse}
 use Rattle.refusal.specs.declared.Refusal.{Refusal}
+use Rattle.correspondences.specs.declared.Rig.{Rig}
 use Rattle.correspondences.specs.Problem.{Problem}
 use Rattle.reduced_system.specs.declared.ReducedSystem.{ReducedSystem}
 use Rattle.checks.specs.Checks as Checks
 use Rattle.optimizer.specs.Step.{blockAt, reducedSystem}
 use Rattle.fields.specs.Fields.{pointFields}
 use Rattle.record_form.specs.Form as Form
-use Rattle.record.specs.Run.{run, damping}
+use Rattle.run.specs.Run.{rig, run, damping}
 use Rattle.text.specs.Text.{pasted}
 use Rattle.lines.specs.Lines.{runLine, letter, pointLine, sumLine, refusedLine}
 use Rattle.record.specs.declared.list.Written.{Written}
+
+-- a record of the right form, with its rig and its damping
+abbrev pub Read : List ℕ → Rig → Float → Type 0
+Read r x d = Form.Formed r × (x ≡ rig r) × (d ≡ damping r)
 
 -- a line for each of the first n points
 unfoldable pub pointLines : Problem → ℕ → List ℕ

@@ -1,6 +1,6 @@
-// The list of a run record, and the run it holds: document 01, "Run record and its list".
+// The list of a run record: document 01, "Run record and its list".
 mod list;
-mod run;
+mod points;
 
 pub use list::MAX_LIST;
 pub use list::Written;

@@ -5,10 +5,10 @@ ghost use Rattle.refusal.specs.Refused.{isNone};
 ghost use Rattle.optimizer.specs.Step as Steps;
 ghost use Rattle.fields.specs.Fields as Fields;
 ghost use Rattle.record_form.specs.Form as Form;
+ghost use Rattle.run.specs.Run as Run;
 ghost use Rattle.record.specs.Lists as Lists;
-ghost use Rattle.record.specs.Run as Run;
 ghost use Rattle.text.specs.Text as Text;
-use crate::run;
+use crate::points;
 use correspondences::Rig;
 use reduced_system::ReducedSystem;
 
@@ -54,7 +54,7 @@ fn put_formed(out: &mut [u8], record: &[u8]) -> usize
     ensures { λ r. ⌜ Text.Put (Lists.list (now («record» .entry))) 0 (now (out .entry)) r (now (out .exit)) ⌝ }
 {
     let rig = run::rig_of(record);
-    let damping = run::number_at(record, fields::DAMPING_AT + 3);
+    let damping = run::number_at(record, (fields::DAMPING_AT + 3) as u32);
     let reduced = reduced_system(record, rig, damping);
     let refusal = reduced.refusal;
     if !refusal.is_none() {
@@ -66,16 +66,16 @@ fn put_formed(out: &mut [u8], record: &[u8]) -> usize
 
 // The system of a record of the right form
 fn reduced_system(record: &[u8], rig: Rig, damping: f64) -> optimizer::Reduced
-    requires { ⌜ Run.Read (now «record») rig damping ⌝ }
+    requires { ⌜ Lists.Read (now «record») rig damping ⌝ }
     ensures { λ r. ⌜ r ≡ Steps.reduced (Run.run (now («record» .entry))) ⌝ }
 {
     let n = fields::point_fields(record);
     let twice = 2 * n;
     let thrice = 3 * n;
-    let points = run::column(record, 0, 3, thrice);
-    let view1 = run::column(record, 24, 2, twice);
-    let view2 = run::column(record, 40, 2, twice);
-    let deviations = run::column(record, 56, 1, n);
+    let points = points::column(record, 0, 3, thrice);
+    let view1 = points::column(record, 24, 2, twice);
+    let view2 = points::column(record, 40, 2, twice);
+    let deviations = points::column(record, 56, 1, n);
     optimizer::reduced_system(
         &points[..thrice],
         &view1[..twice],
@@ -88,7 +88,7 @@ fn reduced_system(record: &[u8], rig: Rig, damping: f64) -> optimizer::Reduced
 
 // The lines of a run that is not refused
 fn put_lines(out: &mut [u8], record: &[u8], rig: Rig, damping: f64, system: ReducedSystem) -> usize
-    requires { ⌜ Run.Read (now «record») rig damping ⌝ }
+    requires { ⌜ Lists.Read (now «record») rig damping ⌝ }
     ensures { λ r. ⌜ Text.Put (Lists.linesOf (now («record» .entry)) system) 0 (now (out .entry)) r (now (out .exit)) ⌝ }
 {
     let n = fields::point_fields(record);
@@ -99,12 +99,12 @@ fn put_lines(out: &mut [u8], record: &[u8], rig: Rig, damping: f64, system: Redu
 
 // A line for each point
 fn put_points(out: &mut [u8], start: usize, record: &[u8], rig: Rig, damping: f64) -> usize
-    requires { ⌜ Run.Read (now «record») rig damping ⌝ }
+    requires { ⌜ Lists.Read (now «record») rig damping ⌝ }
     ensures { λ r. ⌜ Text.Put (Lists.pointLines (Run.run (now («record» .entry))) (Fields.pointFields (now («record» .entry)))) start (now (out .entry)) r (now (out .exit)) ⌝ }
 {
     let mut at = start;
     for i in 0..fields::point_fields(record) {
-        let letter = lines::letter(run::block_at(record, rig, i), damping);
+        let letter = lines::letter(points::block_at(record, rig, i), damping);
         at = lines::put_point(out, at, i as u32, letter);
     }
     at

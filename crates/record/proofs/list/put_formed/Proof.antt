@@ -7,12 +7,6 @@ use borrow.Author.Needs.{needs}
 use Rattle.record.proofs.list.put_formed.Statement.{statement}
 use Rattle.record.proofs.list.put_formed.Tie as tie
 
-rig-of-requires : tie.Need-rig-of-requires
-rig-of-requires c κs = omega (arith, formed _ (c .before .before .pre) .0)
-
-number-at-requires : tie.Need-number-at-requires
-number-at-requires c κs = omega (arith, formed _ (c .before .before .before .pre) .0)
-
 reduced-system-requires : tie.Need-reduced-system-requires
 reduced-system-requires c κs = (formed _ (c .before .before .before .before .pre), c .before .rig-of .ensures, c .number-at .ensures)
 
@@ -43,9 +37,10 @@ pub put-formed-spec : {M : Type 1} → statement M
 put-formed-spec =
     tie.close
     (tie.spec
-    rig-of-requires
+    (λ c κs. search needs)
     (λ c. omega arith)
-    number-at-requires
+    (λ c. omega arith)
+    (λ c κs. search needs)
     reduced-system-requires
     (λ c κs. search needs)
     (λ c κs. search needs)

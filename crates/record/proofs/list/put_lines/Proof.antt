@@ -5,8 +5,8 @@ use Prim.Native.Nat.{ℕ}
 use lib.Ieee.{Float}
 use Rattle.fields.specs.Fields.{pointFields}
 use Rattle.text.proofs.Puts.{put-put, put-same}
-use Rattle.record.specs.Run as Run
-use Rattle.record.specs.Run.{damping}
+use Rattle.run.specs.Run as Run
+use Rattle.run.specs.Run.{damping}
 use Rattle.lines.specs.Lines.{runLine}
 use Rattle.record.specs.Lists.{pointLines, linesOf}
 use native.Mathlib.Omega.{arith}

@@ -1,7 +1,7 @@
 -- `record::list::put_points` meets its contract. Assumes nothing.
 use Rattle.text.proofs.Puts.{put-same}
 use Rattle.fields.specs.Fields.{pointFields}
-use Rattle.record.specs.Run.{run}
+use Rattle.run.specs.Run.{run}
 use Rattle.record.specs.Lists.{pointLines}
 use Rattle.text.specs.Text.{Put}
 use Rattle.record.proofs.Runs.{next-line, no-lines}

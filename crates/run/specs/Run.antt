@@ -1,6 +1,5 @@
 -- What a record of the right form holds: binary64 payloads, low byte first.
 use Prim.Native.Nat.{ℕ, _+_, _*_, _/_, _%_}
-use mathlib.Core.Path.{_≡_}
 use mathlib.Core.List.{List, [], _∷_, _++_}
 use lib.Ieee.{Float, binary64, ofBits}
 use Rattle.number.specs.Vectors.{tabulate}
@@ -9,7 +8,10 @@ use Rattle.views.specs.declared.Correspondence.{Correspondence}
 use Rattle.correspondences.specs.declared.Rig.{Rig}
 use Rattle.correspondences.specs.Problem.{Problem, problem}
 use Rattle.fields.specs.Fields.{byte, camera1At, camera2At, poseAt, basisAt, dampingAt, pointsAt, pointFields}
-use Rattle.record_form.specs.Form.{Formed}
+
+-- no offset that is asked for lies farther on
+abbrev pub farthest : ℕ
+farthest = 1099511627776
 
 -- four bytes, then eight, low byte first
 abbrev pub half : List ℕ → ℕ → ℕ
@@ -56,10 +58,6 @@ rig r = record {
 
 abbrev pub damping : List ℕ → Float
 damping r = numberAt r (dampingAt + 3)
-
--- a record of the right form, with its rig and its damping
-abbrev pub Read : List ℕ → Rig → Float → Type 0
-Read r x d = Formed r × (x ≡ rig r) × (d ≡ damping r)
 
 -- Numbers of all points as one list: `each` a point, which begin at `first` of the payload.
 unfoldable pub column : List ℕ → ℕ → ℕ → ℕ → Float

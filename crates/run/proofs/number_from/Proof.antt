@@ -1,12 +1,12 @@
--- `record::run::number_at` meets its contract. Assumes nothing.
-use Rattle.record.specs.Run.{half, word, numberAt}
+-- `run::number_from` meets its contract. Assumes nothing.
+use Rattle.run.specs.Run.{half, word, numberAt}
 use lib.Ieee.{binary64, ofBits}
 use Prim.Native.Nat.{ℕ, _+_, _*_}
 use mathlib.Core.Path.{ap, _∙_}
 use native.Mathlib.Omega.{arith}
 use borrow.Author.Needs.{needs}
-use Rattle.record.proofs.run.number_at.Statement.{statement}
-use Rattle.record.proofs.run.number_at.Tie as tie
+use Rattle.run.proofs.number_from.Statement.{statement}
+use Rattle.run.proofs.number_from.Tie as tie
 
 returns : tie.Need-returns
 unfolding word numberAt
@@ -15,8 +15,8 @@ returns c =
     ∙ ap (λ (k : ℕ). ofBits binary64 (k + 4294967296 * c .before .half-at2 .result)) (c .before .before .half-at .ensures .0)
     ∙ ap (λ (k : ℕ). ofBits binary64 (half (c .before .before .before .before .args .«record» .now) (c .before .before .before .before .args .at) + 4294967296 * k)) (c .before .half-at2 .ensures .0)
 
-pub number-at-spec : {M : Type 1} → statement M
-number-at-spec =
+pub number-from-spec : {M : Type 1} → statement M
+number-from-spec =
     tie.close
     (tie.spec
     (λ c κs. search needs)

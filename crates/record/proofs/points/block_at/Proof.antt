@@ -1,10 +1,11 @@
--- `record::run::block_at` meets its contract. Assumes nothing.
+-- `record::points::block_at` meets its contract. Assumes nothing.
 use mathlib.Core.Path.{ap, _∙_}
 use Rattle.views.specs.declared.Correspondence.{Correspondence}
 use Rattle.optimizer.specs.Step.{blockOf}
+use native.Mathlib.Omega.{arith}
 use borrow.Author.Needs.{needs}
-use Rattle.record.proofs.run.block_at.Statement.{statement}
-use Rattle.record.proofs.run.block_at.Tie as tie
+use Rattle.record.proofs.points.block_at.Statement.{statement}
+use Rattle.record.proofs.points.block_at.Tie as tie
 
 returns : tie.Need-returns
 unfolding blockOf
@@ -16,6 +17,7 @@ pub block-at-spec : {M : Type 1} → statement M
 block-at-spec =
     tie.close
     (tie.spec
+    (λ c. omega arith)
     (λ c κs. search needs)
     (λ c κs. search needs)
     returns)

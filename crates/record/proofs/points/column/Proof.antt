@@ -1,13 +1,14 @@
--- `record::run::column` meets its contract. Assumes nothing.
+-- `record::points::column` meets its contract. Assumes nothing.
 use mathlib.Core.Path.{_≡_, refl, sym, _∙_}
 use Rattle.number.proofs.Fill.{filled, fill-next}
 use Rattle.fields.specs.Fields.{pointFields}
-use Rattle.record.specs.Run.{column}
+use Rattle.run.specs.Run.{column}
 use Rattle.record.proofs.Runs.{quotient, place, front-filled}
 use Prim.Native.Nat.{_/_, _%_, _-_, _≤_, _<_}
 use native.Mathlib.Omega.{arith}
-use Rattle.record.proofs.run.column.Statement.{statement}
-use Rattle.record.proofs.run.column.Tie as tie
+use borrow.Author.Needs.{needs}
+use Rattle.record.proofs.points.column.Statement.{statement}
+use Rattle.record.proofs.points.column.Tie as tie
 
 abbrev Inv-loop : tie.InvT-loop
 Inv-loop «record» first each count numbers₀ j₀ numbers j = (j ≤ count) × (numbers ≡ filled numbers₀ (column «record» first each) j)
@@ -52,7 +53,8 @@ column-spec =
     (λ c. omega (arith, where-it-stands c .0, where-it-stands c .1))
     (λ c. omega (arith, where-it-stands c .0, where-it-stands c .1))
     (λ c. omega (arith, where-it-stands c .0, where-it-stands c .1))
-    (λ c κs. omega (arith, where-it-stands c .0, where-it-stands c .1))
+    (λ c. omega (arith, where-it-stands c .0, where-it-stands c .1))
+    (λ c κs. search needs)
     (λ c. omega arith)
     (λ c. omega arith)
     (λ c. omega arith)

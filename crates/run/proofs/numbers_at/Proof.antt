@@ -1,12 +1,12 @@
--- `record::run::numbers_at` meets its contract. Assumes nothing.
+-- `run::numbers_at` meets its contract. Assumes nothing.
 use mathlib.Core.Path.{_∙_, _≡_, refl}
 use lib.ListN.{length, length-set}
 use Rattle.number.proofs.Fill.{filled, fill-next, fill-all}
-use Rattle.record.specs.Run.{numberAt}
+use Rattle.run.specs.Run.{numberAt}
 use Prim.Native.Nat.{_+_, _*_, _-_, _≤_}
 use native.Mathlib.Omega.{arith}
-use Rattle.record.proofs.run.numbers_at.Statement.{statement}
-use Rattle.record.proofs.run.numbers_at.Tie as tie
+use Rattle.run.proofs.numbers_at.Statement.{statement}
+use Rattle.run.proofs.numbers_at.Tie as tie
 
 abbrev Inv-loop : tie.InvT-loop
 Inv-loop «record» at out₀ j₀ j-end out j = (j ≤ j-end) × (j-end ≡ length out₀) × (length out ≡ length out₀) × (out ≡ filled out₀ (λ k. numberAt «record» (at + 8 * k)) j)
@@ -21,7 +21,7 @@ loop-again : tie.Need-loop-again Inv-loop μ-loop
 loop-again c =
     let l = c .before .before in
     let a = l .before .before .before .args in
-    (omega arith, l .loop .inv .1, length-set (l .loop .out) _ _ ∙ l .loop .inv .2, fill-next (a .out .now) (l .loop .out) (λ k. numberAt (a .«record» .now) (a .at + 8 * k)) (l .loop .j) _ (l .loop .inv .3) (c .number-at .ensures) (omega arith))
+    (omega arith, l .loop .inv .1, length-set (l .loop .out) _ _ ∙ l .loop .inv .2, fill-next (a .out .now) (l .loop .out) (λ k. numberAt (a .«record» .now) (a .at + 8 * k)) (l .loop .j) _ (l .loop .inv .3) (c .number-from .ensures) (omega arith))
 
 same-length : tie.Need-same-length Inv-loop μ-loop
 same-length c = c .before .loop .inv .2

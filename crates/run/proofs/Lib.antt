@@ -1,0 +1,2 @@
+-- Laws of the numbers that a record holds.
+mod Runs
