@@ -7,7 +7,7 @@ use lib.Dec.{T, eqb, leb}
 use Rattle.refusal.specs.Rows as Rows
 use Rattle.refusal.specs.First.{unless}
 use Rattle.refusal.specs.Refused.{of, isNone}
-use Rattle.point_block.specs.Lone.{goodDamping}
+use Rattle.point_damping.specs.Damping.{goodDamping}
 use Rattle.correspondences.specs.Problem.{Problem, count}
 use Rattle.checks.specs.Checks.{lengthsFit, maxPoints, Fits, valuesRefused, refused}
 use Rattle.refusal.proofs.Scans.{row-refuses, after-none, held}

@@ -13,7 +13,7 @@ use Rattle.refusal.specs.Rows as Rows
 use Rattle.refusal.specs.Refused.{at, of, isNone}
 use Rattle.refusal.specs.First.{unless, firstOf, first}
 use Rattle.refusal.specs.declared.Refusal.{Refusal}
-use Rattle.point_block.specs.Lone.{goodDamping}
+use Rattle.point_damping.specs.Damping.{goodDamping}
 use Rattle.views.specs.Views.{goodDeviation}
 use Rattle.correspondences.specs.declared.Rig.{Rig}
 use Rattle.correspondences.specs.Problem.{Problem, count, triple, pair, observation, project}

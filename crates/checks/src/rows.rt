@@ -61,7 +61,7 @@ fn values_refused<'a>(
 {
     let n = inverse_deviations.len() as u32;
     let pose = rig.pose;
-    if !point_block::good_damping(damping) {
+    if !point_damping::good_damping(damping) {
         return Refusal::of(refusal::DAMPING);
     }
     let by_deviation = deviations_refused(inverse_deviations, n);

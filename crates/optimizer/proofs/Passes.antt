@@ -11,7 +11,8 @@ use lib.Ieee.{Float}
 use Rattle.number.specs.Binary64.{_⊕_, zero as zero·}
 use Rattle.number.specs.Vectors.{_!_}
 use Rattle.refusal.specs.Refused.{isNone}
-use Rattle.point_block.specs.Lone.{factor, goodDamping}
+use Rattle.point_damping.specs.Damping.{goodDamping}
+use Rattle.point_block.specs.Lone.{factor}
 use Rattle.schur.specs.System.{add}
 use Rattle.reduced_system.specs.Model.{newSystem, finishDamping}
 use Rattle.linearization.specs.Linearize.{pointTerms}

@@ -12,7 +12,7 @@ use lib.Ieee.{Float, nan, inf, fin, le, isNan}
 use lib.Ieee.Bits.{is-true}
 use Rattle.number.specs.Vectors.{allFinite}
 use Rattle.refusal.specs.Refused.{none}
-use Rattle.point_block.specs.Lone.{goodDamping}
+use Rattle.point_damping.specs.Damping.{goodDamping}
 use Rattle.point_block.proofs.Laws.{lone-factors}
 use Rattle.linearization.specs.Linearize.{pointTerms}
 use Rattle.pose_model.specs.PoseModel.{dampedHessian}

@@ -9,7 +9,7 @@ use lib.Ieee.{Float}
 use Rattle.number.specs.Vectors.{_!_}
 use Rattle.refusal.specs.Refused.{none}
 use Rattle.projection.specs.Projection as Projection
-use Rattle.point_block.specs.Damping as Damping
+use Rattle.point_damping.specs.Damping as Damping
 use Rattle.point_block.specs.Factor as Factor
 use Rattle.point_block.specs.Condition as Condition
 use Rattle.point_block.specs.Lone as Lone

@@ -14,7 +14,7 @@ pub extern "C" fn pixel_step_damping_diagonal(matrix: &[f64], out: &mut [f64]) -
     if !((matrix.len() == 9) & (out.len() == 3)) {
         return slices::lengths();
     }
-    let d = PointBlockFactor::damping_diagonal(slices::vector9(matrix, 0));
+    let d = point_damping::damping_diagonal(slices::vector9(matrix, 0));
     let refusal = d.refusal;
     let values = d.values;
     slices::answer(refusal, &values, out)
@@ -28,7 +28,7 @@ pub extern "C" fn pixel_step_damped_matrix(matrix: &[f64], damping: f64, out: &m
     if !((matrix.len() == 9) & (out.len() == 9)) {
         return slices::lengths();
     }
-    let d = PointBlockFactor::damped_matrix(slices::vector9(matrix, 0), damping);
+    let d = point_damping::damped_matrix(slices::vector9(matrix, 0), damping);
     let refusal = d.refusal;
     let values = d.matrix;
     slices::answer(refusal, &values, out)

@@ -7,44 +7,25 @@ use lib.Dec.{T}
 use lib.Ieee.{Float, lt, ofBits}
 use lib.Ieee.Bits.{is-true}
 use lib.Ieee.Fits.{and-l, and-r}
-use Rattle.number.specs.Binary64.{_⊗_, zero, epsilon64, recip}
-use Rattle.number.specs.Extrema.{larger, Larger}
+use Rattle.number.specs.Binary64.{_⊗_, zero, recip}
+use Rattle.number.specs.Extrema.{larger}
 use Rattle.number.specs.Parts.{isFinite, nonneg, positiveFinite}
 use Rattle.number.specs.Vectors.{_!_}
-use Rattle.number.proofs.Order.{largest-three, nonneg-largest, nonneg-floor, nonneg-above, nonneg-recip}
+use Rattle.number.proofs.Order.{largest-three, nonneg-above, nonneg-recip}
 use Rattle.refusal.specs.Rows as Rows
 use Rattle.refusal.specs.Refused.{of, none, isRowNone, isNone}
 use Rattle.refusal.specs.declared.Refusal.{Refusal}
 use Rattle.cholesky.specs.Cholesky.{invert}
 use Rattle.cholesky.specs.declared.Inverse.{Inverse}
-use Rattle.point_block.specs.declared.DampingDiagonal.{DampingDiagonal}
-use Rattle.point_block.specs.declared.DampedMatrix.{DampedMatrix}
+use Rattle.point_damping.specs.Damping.{floored, goodDamping, dampedMatrix}
+use Rattle.point_damping.specs.declared.DampedMatrix.{DampedMatrix}
 use Rattle.point_block.specs.declared.PointBlockFactor.{PointBlockFactor}
 use Rattle.point_block.specs.declared.LoneFactor.{LoneFactor}
-use Rattle.point_block.specs.Damping.{largestDiagonal, floored, dampingDiagonal, addedDiagonal, dampedMatrix}
 use Rattle.point_block.specs.Factor.{notFactored, factorDamped}
 use Rattle.point_block.specs.Condition.{rowNorm, infinityNorm, inverseMatrix, reciprocalConditionNumber}
-use Rattle.point_block.specs.Lone.{factor, goodDamping, refused, loneFactor}
+use Rattle.point_block.specs.Lone.{factor, refused, loneFactor}
 
 -- ---- the steps
-
-pub largest-diagonal : (m : List Float) (a b c : Float) → a ≡ larger zero (m ! 0) → b ≡ larger a (m ! 4) → c ≡ larger b (m ! 8) → c ≡ largestDiagonal m
-unfolding largestDiagonal
-largest-diagonal m a b c e f g = largest-three (m ! 0) (m ! 4) (m ! 8) a b c e f g
-
-nonneg-scale : (m : List Float) → T (nonneg (largestDiagonal m))
-unfolding largestDiagonal
-nonneg-scale m = nonneg-largest zero (m ! 0 ∷ m ! 4 ∷ m ! 8 ∷ []) (unfold nonneg ofBits in tt)
-
-pub floored-is : (m : List Float) (scale a b c : Float) → scale ≡ largestDiagonal m → Larger (epsilon64 ⊗ scale) (m ! 0) a → Larger (epsilon64 ⊗ scale) (m ! 4) b
-    → Larger (epsilon64 ⊗ scale) (m ! 8) c → (a ∷ b ∷ c ∷ []) ≡ floored m
-unfolding floored
-floored-is m scale a b c e p q r =
-    let n = rw (← e) at (nonneg-floor (largestDiagonal m) (nonneg-scale m)) in
-    let x = p .second n in
-    let y = q .second n in
-    let z = r .second n in
-    cc
 
 pub norm-is : (m : List Float) (x y z a b c : Float) → x ≡ rowNorm (m ! 0) (m ! 1) (m ! 2) → y ≡ rowNorm (m ! 3) (m ! 4) (m ! 5) → z ≡ rowNorm (m ! 6) (m ! 7) (m ! 8)
     → a ≡ larger zero x → b ≡ larger a y → c ≡ larger b z → c ≡ infinityNorm m
@@ -61,25 +42,6 @@ module _ (i m inverse : List Float) (n k : Float) (b : Bool) (f : n ≡ infinity
   pub rcond-none : b ≡ false → zero ≡ reciprocalConditionNumber i m
   unfolding reciprocalConditionNumber
   rcond-none p = rw (← g, ← h, ← f, ← t, p) refl
-
-module _ (m : List Float) (s : Float) (b : Bool) (r : Refusal) (e : s ≡ largestDiagonal m) (t : b ≡ positiveFinite s) where
-  pub diagonal-none : not b ≡ true → r ≡ of Rows.notFactored → record { values = zero ∷ zero ∷ zero ∷ []; refusal = r } ≡ dampingDiagonal m
-  unfolding dampingDiagonal
-  diagonal-none p q = rw (← e, ← t, not-true b p, q) refl
-
-  pub diagonal-some : (v : List Float) → not b ≡ false → v ≡ floored m → r ≡ none → record { values = v; refusal = r } ≡ dampingDiagonal m
-  unfolding dampingDiagonal
-  diagonal-some v p f q = rw (← e, ← t, not-false b p, f, q) refl
-
-module _ (m : List Float) (damping : Float) (d : DampingDiagonal) (b : Bool) (e : d ≡ dampingDiagonal m) (t : b ≡ isNone (d .refusal)) where
-  pub damped-none : not b ≡ true
-      → record { matrix = zero ∷ zero ∷ zero ∷ zero ∷ zero ∷ zero ∷ zero ∷ zero ∷ zero ∷ []; refusal = d .refusal } ≡ dampedMatrix m damping
-  unfolding dampedMatrix
-  damped-none p = rw (← e, ← t, not-true b p) refl
-
-  pub damped-some : (x : List Float) → not b ≡ false → x ≡ addedDiagonal m damping (d .values) → record { matrix = x; refusal = d .refusal } ≡ dampedMatrix m damping
-  unfolding dampedMatrix
-  damped-some x p q = rw (← e, ← t, not-false b p, q) refl
 
 module _ (m d : List Float) (i : Inverse) (e : d ≡ floored m) (f : i ≡ invert m d) where
   pub factored-none : (r : PointBlockFactor) → not (i .good) ≡ true → r ≡ notFactored → r ≡ factorDamped m

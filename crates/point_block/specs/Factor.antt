@@ -7,8 +7,8 @@ use Rattle.number.specs.Vectors.{_!_}
 use Rattle.refusal.specs.Rows as Rows
 use Rattle.refusal.specs.Refused.{of, none}
 use Rattle.cholesky.specs.Cholesky.{invert}
+use Rattle.point_damping.specs.Damping.{floored}
 use Rattle.point_block.specs.declared.PointBlockFactor.{PointBlockFactor}
-use Rattle.point_block.specs.Damping.{floored}
 
 -- row 10; every number is +0
 unfoldable pub notFactored : PointBlockFactor

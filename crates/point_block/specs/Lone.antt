@@ -1,15 +1,14 @@
 -- The factor of a block at a damping, which is the Rust's `PointBlockFactor::new`, and the lone factor of document 01, which tests row 3, then row 10, and has its rcond beside it.
 use Prim.Native.Nat.{ℕ}
-use mathlib.Core.Bool.{Bool, not, _&&_, cond}
+use mathlib.Core.Bool.{cond}
 use mathlib.Core.List.{List, [], _∷_}
-use lib.Ieee.{Float, lt}
+use lib.Ieee.{Float}
 use Rattle.number.specs.Binary64.{zero}
-use Rattle.number.specs.Parts.{isFinite}
 use Rattle.refusal.specs.Rows as Rows
 use Rattle.refusal.specs.Refused.{of, none, isNone}
+use Rattle.point_damping.specs.Damping.{goodDamping, dampedMatrix}
 use Rattle.point_block.specs.declared.PointBlockFactor.{PointBlockFactor}
 use Rattle.point_block.specs.declared.LoneFactor.{LoneFactor}
-use Rattle.point_block.specs.Damping.{dampedMatrix}
 use Rattle.point_block.specs.Factor.{notFactored, factorDamped}
 use Rattle.point_block.specs.Condition.{reciprocalConditionNumber}
 
@@ -18,10 +17,6 @@ unfoldable pub factor : List Float → Float → PointBlockFactor
 factor m damping =
     let d = dampedMatrix m damping in
     cond (isNone (d .refusal)) (factorDamped (d .matrix)) notFactored
-
--- row 3: damping not finite or below 0
-unfoldable pub goodDamping : Float → Bool
-goodDamping damping = isFinite damping && not (lt damping zero)
 
 -- every number beside a refusal is +0
 unfoldable pub refused : ℕ → LoneFactor

@@ -2,26 +2,15 @@
 // SPDX-License-Identifier: MIT OR Apache-2.0
 
 // Scaled Cholesky factorization for symmetric 3 by 3 point blocks: kernel/point_block.rs. A matrix is
-// nine numbers, row by row; `cholesky` has the arithmetic of the factor.
+// nine numbers, row by row; `cholesky` has the arithmetic of the factor, `point_damping` the damping.
 ghost use mathlib.Core.Path.{_≡_};
 ghost use Rattle.point_block.specs.Condition as Condition;
-ghost use Rattle.point_block.specs.Damping as Damping;
 ghost use Rattle.point_block.specs.Factor as Factor;
 ghost use Rattle.point_block.specs.Lone as Lone;
 use refusal::Refusal;
 
-// What damping is multiplied with. Beside a refusal every number is +0, here and in the structs below.
-pub struct DampingDiagonal {
-    pub values: [f64; 3],
-    pub refusal: Refusal,
-}
-
-pub struct DampedMatrix {
-    pub matrix: [f64; 9],
-    pub refusal: Refusal,
-}
-
-// The inverse of a symmetric 3 by 3 block, packed lower triangle: 00, 10, 11, 20, 21, 22
+// The inverse of a symmetric 3 by 3 block, packed lower triangle: 00, 10, 11, 20, 21, 22. Beside a
+// refusal every number is +0, here and in the struct below.
 pub struct PointBlockFactor {
     pub inverse: [f64; 6],
     pub refusal: Refusal,
@@ -34,19 +23,12 @@ pub struct LoneFactor {
     pub refusal: Refusal,
 }
 
-// Row 3 lets a damping through that is finite and not below 0.
-pub fn good_damping(damping: f64) -> bool
-    ensures { λ r. ⌜ r ≡ Lone.goodDamping damping ⌝ }
-{
-    number::is_finite(damping) & !(damping < 0.0)
-}
-
 impl PointBlockFactor {
     // The lone factor: tests row 3, then row 10.
     pub fn new(matrix: [f64; 9], damping: f64) -> LoneFactor
         ensures { λ r. ⌜ r ≡ Lone.loneFactor matrix damping ⌝ }
     {
-        if !good_damping(damping) {
+        if !point_damping::good_damping(damping) {
             return lone_refused(refusal::DAMPING);
         }
         let factor = Self::factor(matrix, damping);
@@ -66,7 +48,7 @@ impl PointBlockFactor {
     pub fn factor(matrix: [f64; 9], damping: f64) -> Self
         ensures { λ r. ⌜ r ≡ Lone.factor matrix damping ⌝ }
     {
-        let damped = Self::damped_matrix(matrix, damping);
+        let damped = point_damping::damped_matrix(matrix, damping);
         let refusal = damped.refusal;
         if !refusal.is_none() {
             return not_factored();
@@ -75,45 +57,11 @@ impl PointBlockFactor {
         Self::factor_damped(damped_matrix)
     }
 
-    pub fn damped_matrix(matrix: [f64; 9], damping: f64) -> DampedMatrix
-        ensures { λ r. ⌜ r ≡ Damping.dampedMatrix matrix damping ⌝ }
-    {
-        let diagonal = Self::damping_diagonal(matrix);
-        let refusal = diagonal.refusal;
-        if !refusal.is_none() {
-            return DampedMatrix {
-                matrix: [0.0; 9],
-                refusal,
-            };
-        }
-        let values = diagonal.values;
-        DampedMatrix {
-            matrix: added_diagonal(matrix, damping, values),
-            refusal,
-        }
-    }
-
-    pub fn damping_diagonal(matrix: [f64; 9]) -> DampingDiagonal
-        ensures { λ r. ⌜ r ≡ Damping.dampingDiagonal matrix ⌝ }
-    {
-        let scale = largest_diagonal(matrix);
-        if !number::positive_finite(scale) {
-            return DampingDiagonal {
-                values: [0.0; 3],
-                refusal: Refusal::of(refusal::NOT_FACTORED),
-            };
-        }
-        DampingDiagonal {
-            values: floored(matrix, scale),
-            refusal: Refusal::none(),
-        }
-    }
-
     // The factor of a matrix that is damped already.
     pub fn factor_damped(damped: [f64; 9]) -> Self
         ensures { λ r. ⌜ r ≡ Factor.factorDamped damped ⌝ }
     {
-        let inverted = cholesky::invert(damped, floored(damped, largest_diagonal(damped)));
+        let inverted = cholesky::invert(damped, point_damping::floored_diagonal(damped));
         if !inverted.good {
             return not_factored();
         }
@@ -181,41 +129,6 @@ fn lone_refused(row: u32) -> LoneFactor
         rcond: 0.0,
         refusal: Refusal::of(row),
     }
-}
-
-fn largest_diagonal(m: [f64; 9]) -> f64
-    ensures { λ r. ⌜ r ≡ Damping.largestDiagonal m ⌝ }
-{
-    number::larger(number::larger(number::larger(0.0, m[0]), m[4]), m[8])
-}
-
-// The diagonal, but no entry below 64ε of the largest, which is `scale`.
-fn floored(m: [f64; 9], scale: f64) -> [f64; 3]
-    requires { ⌜ scale ≡ Damping.largestDiagonal m ⌝ }
-    ensures { λ r. ⌜ r ≡ Damping.floored m ⌝ }
-{
-    let floor = number::EPSILON64 * scale;
-    [
-        number::larger(floor, m[0]),
-        number::larger(floor, m[4]),
-        number::larger(floor, m[8]),
-    ]
-}
-
-fn added_diagonal(m: [f64; 9], damping: f64, d: [f64; 3]) -> [f64; 9]
-    ensures { λ r. ⌜ r ≡ Damping.addedDiagonal m damping d ⌝ }
-{
-    [
-        m[0] + damping * d[0],
-        m[1],
-        m[2],
-        m[3],
-        m[4] + damping * d[1],
-        m[5],
-        m[6],
-        m[7],
-        m[8] + damping * d[2],
-    ]
 }
 
 // The largest sum of a row's absolute values; each sum begins at −0.

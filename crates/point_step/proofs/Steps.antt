@@ -7,9 +7,9 @@ use lib.Ieee.{Float}
 use Rattle.refusal.specs.Rows as Rows
 use Rattle.refusal.specs.Refused.{none, isNone}
 use Rattle.refusal.specs.declared.Refusal.{Refusal}
-use Rattle.point_block.specs.Damping.{dampingDiagonal}
-use Rattle.point_block.specs.Lone.{factor, goodDamping}
-use Rattle.point_block.specs.declared.DampingDiagonal.{DampingDiagonal}
+use Rattle.point_damping.specs.Damping.{goodDamping, dampingDiagonal}
+use Rattle.point_damping.specs.declared.DampingDiagonal.{DampingDiagonal}
+use Rattle.point_block.specs.Lone.{factor}
 use Rattle.point_block.specs.declared.PointBlockFactor.{PointBlockFactor}
 use Rattle.linearization.specs.declared.terms.PointTerms.{PointTerms}
 use Rattle.point_step.specs.declared.PointStep.{PointStep}

@@ -7,9 +7,9 @@ use Rattle.number.specs.Binary64.{_⊕_, _⊗_, zero}
 use Rattle.number.specs.Vectors.{_!_, sum, tabulate}
 use Rattle.refusal.specs.Rows as Rows
 use Rattle.refusal.specs.Refused.{of, none, isNone}
-use Rattle.point_block.specs.Damping.{dampingDiagonal}
+use Rattle.point_damping.specs.Damping.{goodDamping, dampingDiagonal}
 use Rattle.point_block.specs.Factor.{solve}
-use Rattle.point_block.specs.Lone.{factor, goodDamping}
+use Rattle.point_block.specs.Lone.{factor}
 use Rattle.linearization.specs.declared.linearize.LocalLinearization.{LocalLinearization}
 use Rattle.linearization.specs.declared.terms.PointTerms.{PointTerms}
 use Rattle.linearization.specs.Linearize.{pointTerms}

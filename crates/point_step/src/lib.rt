@@ -32,7 +32,7 @@ pub fn point_step_with_damping_norm(
 pub fn step_of_terms(terms: PointTerms, damping: f64, pose_step: [f64; 5]) -> PointStep
     ensures { λ r. ⌜ r ≡ Steps.stepOfTerms terms damping «pose_step» ⌝ }
 {
-    if !point_block::good_damping(damping) {
+    if !point_damping::good_damping(damping) {
         return not_stepped(refusal::DAMPING);
     }
     let matrix = terms.point_hessian;
@@ -59,7 +59,7 @@ fn stepped(factor: PointBlockFactor, terms: PointTerms, pose_step: [f64; 5]) -> 
 {
     let step = step_of(factor, terms, pose_step);
     let matrix = terms.point_hessian;
-    let diagonal = PointBlockFactor::damping_diagonal(matrix);
+    let diagonal = point_damping::damping_diagonal(matrix);
     let values = diagonal.values;
     PointStep {
         step,

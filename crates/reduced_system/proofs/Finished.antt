@@ -8,7 +8,7 @@ use Rattle.number.specs.Binary64.{zero}
 use Rattle.refusal.specs.Rows as Rows
 use Rattle.refusal.specs.Refused.{of, none}
 use Rattle.refusal.specs.declared.Refusal.{Refusal}
-use Rattle.point_block.specs.Lone.{goodDamping}
+use Rattle.point_damping.specs.Damping.{goodDamping}
 use Rattle.pose_model.specs.PoseModel.{dampedHessian}
 use Rattle.reduced_system.specs.declared.ReducedSystem.{ReducedSystem}
 use Rattle.reduced_system.specs.Model.{withHessian, finishDamping, reductionOf, predictedReduction}

@@ -7,7 +7,7 @@ use Rattle.number.specs.Extrema.{max}
 use Rattle.number.specs.Vectors.{tabulate, allFinite}
 use Rattle.refusal.specs.Rows as Rows
 use Rattle.refusal.specs.Refused.{of, none}
-use Rattle.point_block.specs.Lone.{goodDamping}
+use Rattle.point_damping.specs.Damping.{goodDamping}
 use Rattle.gradient_norm.specs.GradientNorm.{scaledGradientInfNorm}
 use Rattle.pose_model.specs.PoseModel.{dampedHessian, dot5, quadratic, poseDampingNorm}
 use Rattle.reduced_system.specs.declared.ReducedSystem.{ReducedSystem}

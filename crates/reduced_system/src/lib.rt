@@ -58,7 +58,7 @@ impl ReducedSystem {
     pub fn finish_damping(self, damping: f64) -> Added
         ensures { λ r. ⌜ r ≡ Model.finishDamping self damping ⌝ }
     {
-        if !point_block::good_damping(damping) {
+        if !point_damping::good_damping(damping) {
             return Added {
                 system: self,
                 refusal: Refusal::of(refusal::DAMPING),
@@ -102,7 +102,7 @@ impl ReducedSystem {
     ) -> Predicted
         ensures { λ r. ⌜ r ≡ Model.predictedReduction self step damping «point_damping_norm» ⌝ }
     {
-        if !point_block::good_damping(damping) {
+        if !point_damping::good_damping(damping) {
             return Predicted {
                 reduction: 0.0,
                 refusal: Refusal::of(refusal::DAMPING),

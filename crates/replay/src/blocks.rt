@@ -1,4 +1,4 @@
-// The calls of `point_block`.
+// The calls of `point_damping` and `point_block`.
 use crate::calls::Call;
 use crate::cases::Case;
 use crate::files;
@@ -23,13 +23,13 @@ pub fn replay(text: &mut [u8; ROOM]) {
 }
 
 pub fn damping_diagonal(case: Case) -> Outcome {
-    let diagonal = PointBlockFactor::damping_diagonal(matrix(case));
+    let diagonal = point_damping::damping_diagonal(matrix(case));
     let values = diagonal.values;
     Outcome::of(case, diagonal.refusal).with(&values)
 }
 
 pub fn damped_matrix(case: Case) -> Outcome {
-    let damped = PointBlockFactor::damped_matrix(matrix(case), case.number(9));
+    let damped = point_damping::damped_matrix(matrix(case), case.number(9));
     let values = damped.matrix;
     Outcome::of(case, damped.refusal).with(&values)
 }

@@ -13,7 +13,8 @@ use Rattle.refusal.specs.Rows as Rows
 use Rattle.refusal.specs.Refused.{of, none, isNone}
 use Rattle.refusal.specs.declared.Refusal.{Refusal}
 use Rattle.point_block.specs.Condition.{reciprocalConditionNumber}
-use Rattle.point_block.specs.Lone.{factor, goodDamping}
+use Rattle.point_damping.specs.Damping.{goodDamping}
+use Rattle.point_block.specs.Lone.{factor}
 use Rattle.point_block.specs.declared.PointBlockFactor.{PointBlockFactor}
 use Rattle.linearization.specs.declared.linearize.LocalLinearization.{LocalLinearization}
 use Rattle.reduced_system.specs.declared.ReducedSystem.{ReducedSystem}

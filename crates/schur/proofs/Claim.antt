@@ -18,7 +18,8 @@ use Rattle.number.proofs.Monotone.{le-add, le-trans, zero-le, nonneg-zero}
 use Rattle.refusal.specs.Rows as Rows
 use Rattle.refusal.specs.Refused.{of, none, isNone}
 use Rattle.point_block.specs.Condition.{reciprocalConditionNumber}
-use Rattle.point_block.specs.Lone.{factor, goodDamping, loneFactor}
+use Rattle.point_damping.specs.Damping.{goodDamping}
+use Rattle.point_block.specs.Lone.{factor, loneFactor}
 use Rattle.point_block.proofs.Laws.{lone-factors, rcond-nonneg}
 use Rattle.linearization.specs.declared.linearize.LocalLinearization.{LocalLinearization}
 use Rattle.reduced_system.specs.declared.ReducedSystem.{ReducedSystem}

@@ -10,7 +10,8 @@ use Rattle.refusal.specs.Rows as Rows
 use Rattle.refusal.specs.Refused.{of, none, isNone}
 use Rattle.refusal.specs.declared.Refusal.{Refusal}
 use Rattle.projection.specs.declared.PinholeCamera.{PinholeCamera}
-use Rattle.point_block.specs.Lone.{goodDamping, loneFactor}
+use Rattle.point_damping.specs.Damping.{goodDamping}
+use Rattle.point_block.specs.Lone.{loneFactor}
 use Rattle.linearization.specs.declared.linearize.LocalLinearization.{LocalLinearization}
 use Rattle.views.specs.declared.Pose.{Pose}
 use Rattle.views.specs.declared.Correspondence.{Correspondence}

@@ -9,7 +9,8 @@ use Rattle.number.specs.Extrema.{max, min}
 use Rattle.refusal.specs.Rows as Rows
 use Rattle.refusal.specs.Refused.{of, none, isNone}
 use Rattle.point_block.specs.Condition.{reciprocalConditionNumber}
-use Rattle.point_block.specs.Lone.{factor, goodDamping}
+use Rattle.point_damping.specs.Damping.{goodDamping}
+use Rattle.point_block.specs.Lone.{factor}
 use Rattle.linearization.specs.declared.linearize.LocalLinearization.{LocalLinearization}
 use Rattle.elimination.specs.Elimination.{reducedHessian, reducedGradient, pointReduction}
 use Rattle.gradient_norm.specs.GradientNorm.{pointGradientNorm}

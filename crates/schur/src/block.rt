@@ -30,7 +30,7 @@ pub struct Change {
 pub fn add(system: ReducedSystem, local: LocalLinearization, damping: f64) -> Added
     ensures { λ r. ⌜ r ≡ System.add system local damping ⌝ }
 {
-    if !point_block::good_damping(damping) {
+    if !point_damping::good_damping(damping) {
         return Added {
             system,
             refusal: Refusal::of(refusal::DAMPING),

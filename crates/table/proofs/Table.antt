@@ -7,7 +7,7 @@ use Rattle.root.specs.Root.{sqrt}
 use Rattle.refusal.specs.Refused.{isNone}
 use Rattle.projection.specs.Projection.{inFront, linearized, allFinite, notProjectable, pixelProjection}
 use Rattle.cholesky.specs.Cholesky.{scaleOf, choleskyOf, goodPivots, inverseOf, invert}
-use Rattle.point_block.specs.Damping.{largestDiagonal, floored, dampingDiagonal, addedDiagonal, dampedMatrix}
+use Rattle.point_damping.specs.Damping.{goodDamping, largestDiagonal, floored, dampingDiagonal, addedDiagonal, dampedMatrix}
 use Rattle.point_block.specs.Factor.{notFactored, factorDamped}
 use Rattle.point_block.specs.Condition.{infinityNorm, inverseMatrix, reciprocalConditionNumber}
 use Rattle.point_block.specs.Lone as Lone
@@ -15,6 +15,6 @@ use Rattle.pose_step.specs.PoseStep.{limitPoseStep}
 use Rattle.table.specs.Table.{Every, done, _and_, table}
 
 pub every-row-holds : Every table
-unfolding neg add sub mul div lt eq le isNan ofBits size units negative isFinite abs magnitude max sqrt isNone inFront linearized allFinite notProjectable pixelProjection largestDiagonal floored dampingDiagonal addedDiagonal dampedMatrix scaleOf choleskyOf goodPivots inverseOf invert notFactored factorDamped infinityNorm inverseMatrix reciprocalConditionNumber Lone.factor Lone.goodDamping Lone.refused Lone.loneFactor limitPoseStep
+unfolding neg add sub mul div lt eq le isNan ofBits size units negative isFinite abs magnitude max sqrt isNone inFront linearized allFinite notProjectable pixelProjection largestDiagonal floored dampingDiagonal addedDiagonal dampedMatrix scaleOf choleskyOf goodPivots inverseOf invert notFactored factorDamped infinityNorm inverseMatrix reciprocalConditionNumber Lone.factor goodDamping Lone.refused Lone.loneFactor limitPoseStep
 every-row-holds =
     refl and refl and refl and refl and refl and refl and refl and refl and refl and refl and refl and refl and refl and refl and refl and refl and done

@@ -3,8 +3,8 @@ use mathlib.Core.Path.{_≡_, sym, ap, _∙_}
 use mathlib.Core.List.{List}
 use lib.ListN.{length}
 use lib.Ieee.{Float}
-use Rattle.point_block.specs.Damping as Damping
-use Rattle.point_block.specs.declared.DampingDiagonal.{DampingDiagonal}
+use Rattle.point_damping.specs.Damping as Damping
+use Rattle.point_damping.specs.declared.DampingDiagonal.{DampingDiagonal}
 use Rattle.pixel_step.specs.Interface.{dampingDiagonal}
 use Rattle.slices.proofs.Laws.{whole, too-short, answers, two-fit}
 use borrow.Author.Needs.{needs}

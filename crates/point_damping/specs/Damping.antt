@@ -1,15 +1,19 @@
 -- The damping of a 3 by 3 point block, `damping_diagonal` and `damped_matrix` of point_block.rs. A matrix is nine numbers, row by row.
-use mathlib.Core.Bool.{cond}
+use mathlib.Core.Bool.{Bool, not, _&&_, cond}
 use mathlib.Core.List.{List, [], _∷_}
-use lib.Ieee.{Float}
+use lib.Ieee.{Float, lt}
 use Rattle.number.specs.Binary64.{_⊕_, _⊗_, zero, epsilon64}
 use Rattle.number.specs.Extrema.{max}
-use Rattle.number.specs.Parts.{positiveFinite}
+use Rattle.number.specs.Parts.{isFinite, positiveFinite}
 use Rattle.number.specs.Vectors.{_!_, largest}
 use Rattle.refusal.specs.Rows as Rows
 use Rattle.refusal.specs.Refused.{of, none, isNone}
-use Rattle.point_block.specs.declared.DampingDiagonal.{DampingDiagonal}
-use Rattle.point_block.specs.declared.DampedMatrix.{DampedMatrix}
+use Rattle.point_damping.specs.declared.DampingDiagonal.{DampingDiagonal}
+use Rattle.point_damping.specs.declared.DampedMatrix.{DampedMatrix}
+
+-- row 3: damping not finite or below 0
+unfoldable pub goodDamping : Float → Bool
+goodDamping damping = isFinite damping && not (lt damping zero)
 
 unfoldable pub largestDiagonal : List Float → Float
 largestDiagonal m = largest (m ! 0 ∷ m ! 4 ∷ m ! 8 ∷ [])

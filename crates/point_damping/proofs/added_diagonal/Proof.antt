@@ -1,9 +1,9 @@
--- `point_block::added_diagonal` meets its contract. Assumes nothing.
+-- `point_damping::added_diagonal` meets its contract. Assumes nothing.
 use mathlib.Core.Path.{refl}
-use Rattle.point_block.specs.Damping.{addedDiagonal}
+use Rattle.point_damping.specs.Damping.{addedDiagonal}
 use native.Mathlib.Omega.{arith}
-use Rattle.point_block.proofs.added_diagonal.Statement.{statement}
-use Rattle.point_block.proofs.added_diagonal.Tie as tie
+use Rattle.point_damping.proofs.added_diagonal.Statement.{statement}
+use Rattle.point_damping.proofs.added_diagonal.Tie as tie
 
 returns : tie.Need-returns
 unfolding addedDiagonal

@@ -1,9 +1,9 @@
--- `point_block::largest_diagonal` meets its contract. Assumes nothing.
-use Rattle.point_block.proofs.Laws.{largest-diagonal}
+-- `point_damping::largest_diagonal` meets its contract. Assumes nothing.
+use Rattle.point_damping.proofs.Laws.{largest-diagonal}
 use native.Mathlib.Omega.{arith}
 use borrow.Author.Needs.{needs}
-use Rattle.point_block.proofs.largest_diagonal.Statement.{statement}
-use Rattle.point_block.proofs.largest_diagonal.Tie as tie
+use Rattle.point_damping.proofs.largest_diagonal.Statement.{statement}
+use Rattle.point_damping.proofs.largest_diagonal.Tie as tie
 
 returns : tie.Need-returns
 returns c = largest-diagonal _ _ _ _ (c .before .before .larger .ensures .is) (c .before .larger2 .ensures .is) (c .larger3 .ensures .is)

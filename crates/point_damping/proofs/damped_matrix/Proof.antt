@@ -1,8 +1,8 @@
--- `point_block::PointBlockFactor::damped_matrix` meets its contract. Assumes nothing.
-use Rattle.point_block.proofs.Laws.{damped-none, damped-some}
+-- `point_damping::damped_matrix` meets its contract. Assumes nothing.
+use Rattle.point_damping.proofs.Laws.{damped-none, damped-some}
 use borrow.Author.Needs.{needs}
-use Rattle.point_block.proofs.PointBlockFactor.damped_matrix.Statement.{statement}
-use Rattle.point_block.proofs.PointBlockFactor.damped_matrix.Tie as tie
+use Rattle.point_damping.proofs.damped_matrix.Statement.{statement}
+use Rattle.point_damping.proofs.damped_matrix.Tie as tie
 
 returns : tie.Need-returns
 returns c =

@@ -1,9 +1,9 @@
--- `point_block::floored` meets its contract. Assumes nothing.
-use Rattle.point_block.proofs.Laws.{floored-is}
+-- `point_damping::floored` meets its contract. Assumes nothing.
+use Rattle.point_damping.proofs.Laws.{floored-is}
 use native.Mathlib.Omega.{arith}
 use borrow.Author.Needs.{needs}
-use Rattle.point_block.proofs.floored.Statement.{statement}
-use Rattle.point_block.proofs.floored.Tie as tie
+use Rattle.point_damping.proofs.floored.Statement.{statement}
+use Rattle.point_damping.proofs.floored.Tie as tie
 
 returns : tie.Need-returns
 returns c = floored-is _ _ _ _ _ (c .before .before .before .pre) (c .before .before .larger .ensures) (c .before .larger2 .ensures) (c .larger3 .ensures)

@@ -1,8 +1,8 @@
--- `point_block::PointBlockFactor::damping_diagonal` meets its contract. Assumes nothing.
-use Rattle.point_block.proofs.Laws.{diagonal-none, diagonal-some}
+-- `point_damping::damping_diagonal` meets its contract. Assumes nothing.
+use Rattle.point_damping.proofs.Laws.{diagonal-none, diagonal-some}
 use borrow.Author.Needs.{needs}
-use Rattle.point_block.proofs.PointBlockFactor.damping_diagonal.Statement.{statement}
-use Rattle.point_block.proofs.PointBlockFactor.damping_diagonal.Tie as tie
+use Rattle.point_damping.proofs.damping_diagonal.Statement.{statement}
+use Rattle.point_damping.proofs.damping_diagonal.Tie as tie
 
 returns : tie.Need-returns
 returns c =
