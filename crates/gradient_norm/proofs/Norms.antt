@@ -7,7 +7,8 @@ use borrow.Author.Tests.{not-true, not-false}
 use lib.Ieee.{Float, eq}
 use Rattle.number.specs.Binary64.{_⊗_, zero, epsilon64}
 use Rattle.number.specs.Parts.{positiveFinite}
-use Rattle.number.specs.Vectors.{_!_, largest, tabulate, allZero}
+use Rattle.number.specs.Vectors.{_!_, tabulate, allZero}
+use Rattle.extrema.specs.Extrema.{largest}
 use Rattle.gradient_norm.specs.GradientNorm.{scaled, unscaled, scaledGradientInfNorm}
 
 three : (a b c : Bool) → (a && b && c) ≡ (a && (b && (c && true)))

@@ -4,10 +4,10 @@ use mathlib.Core.Bool.{Bool, cond, false}
 use mathlib.Core.List.{List, [], _∷_}
 use lib.Ieee.{Float, inf}
 use Rattle.number.specs.Binary64.{_⊗_, _⊘_, zero, epsilon64}
-use Rattle.number.specs.Extrema.{max}
 use Rattle.number.specs.Parts.{abs, positiveFinite}
 use Rattle.root.specs.Root.{sqrt}
-use Rattle.number.specs.Vectors.{_!_, largest, tabulate, allZero}
+use Rattle.number.specs.Vectors.{_!_, tabulate, allZero}
+use Rattle.extrema.specs.Extrema.{max, largest}
 
 -- a gradient's entry by the root of its curvature
 abbrev pub scaled : Float → Float → Float → Float

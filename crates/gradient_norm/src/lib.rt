@@ -5,7 +5,7 @@
 // by the root of its curvature.
 ghost use mathlib.Core.Path.{_≡_};
 ghost use Rattle.gradient_norm.specs.GradientNorm as GradientNorm;
-ghost use Rattle.number.specs.Vectors as Vectors;
+ghost use Rattle.extrema.specs.Extrema as Extrema;
 ghost use Rattle.number.specs.Vectors.{_!_};
 ghost use mathlib.Core.List.{[], _∷_};
 
@@ -59,17 +59,17 @@ fn unscaled(all_zero: bool) -> f64
 fn scaled(value: f64, curvature: f64, floor: f64) -> f64
     ensures { λ r. ⌜ r ≡ GradientNorm.scaled value curvature floor ⌝ }
 {
-    number::abs(value) / root::sqrt(number::max(curvature, floor))
+    number::abs(value) / root::sqrt(extrema::max(curvature, floor))
 }
 
 fn largest3(x: [f64; 3]) -> f64
-    ensures { λ r. ⌜ r ≡ Vectors.largest (x ! 0 ∷ x ! 1 ∷ x ! 2 ∷ []) ⌝ }
+    ensures { λ r. ⌜ r ≡ Extrema.largest (x ! 0 ∷ x ! 1 ∷ x ! 2 ∷ []) ⌝ }
 {
-    number::max(number::max(number::max(0.0, x[0]), x[1]), x[2])
+    extrema::max(extrema::max(extrema::max(0.0, x[0]), x[1]), x[2])
 }
 
 pub fn largest5(x: [f64; 5]) -> f64
-    ensures { λ r. ⌜ r ≡ Vectors.largest (x ! 0 ∷ x ! 1 ∷ x ! 2 ∷ x ! 3 ∷ x ! 4 ∷ []) ⌝ }
+    ensures { λ r. ⌜ r ≡ Extrema.largest (x ! 0 ∷ x ! 1 ∷ x ! 2 ∷ x ! 3 ∷ x ! 4 ∷ []) ⌝ }
 {
-    number::max(number::max(largest3([x[0], x[1], x[2]]), x[3]), x[4])
+    extrema::max(extrema::max(largest3([x[0], x[1], x[2]]), x[3]), x[4])
 }

@@ -2,7 +2,6 @@
 pub mod Values
 pub mod Specials
 pub mod Differences
-pub mod Picks
 pub mod Order
 pub mod Monotone
 pub mod Finite

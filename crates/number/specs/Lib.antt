@@ -1,5 +1,4 @@
 -- What the number helpers are: module 1 of document 01, "Numbers as the Rust means them".
 pub mod Binary64
 pub mod Parts
-pub mod Extrema
 pub mod Vectors

@@ -1,4 +1,4 @@
--- Small vectors and matrices: flat lists, row by row. Sums and largest entries as the Rust's iterators work them out.
+-- Small vectors and matrices: flat lists, row by row. Sums as the Rust's iterators work them out.
 use Prim.Native.Nat.{ℕ, zero as zero·, suc}
 use mathlib.Core.Bool.{Bool, true, _&&_}
 use mathlib.Core.List.{List, [], _∷_}
@@ -6,7 +6,6 @@ use lib.ListN.{getD}
 use lib.Ieee.{Float, nan, eq}
 use Rattle.number.specs.Binary64.{_⊕_, zero, negZero}
 use Rattle.number.specs.Parts.{isFinite}
-use Rattle.number.specs.Extrema.{max, larger}
 
 infixl 90 _!_
 -- the entry at i
@@ -20,20 +19,6 @@ sumFrom s (x ∷ xs) = sumFrom (s ⊕ x) xs
 
 abbrev pub sum : List Float → Float
 sum xs = sumFrom negZero xs
-
--- `.fold(low, f64::max)`
-abbrev pub maxFrom : Float → List Float → Float
-maxFrom low [] = low
-maxFrom low (x ∷ xs) = maxFrom (max low x) xs
-
--- `.fold(0.0, f64::max)`
-abbrev pub largest : List Float → Float
-largest xs = maxFrom zero xs
-
--- the same by one comparison each, which serves from a low that is a number with the sign clear
-abbrev pub largerFrom : Float → List Float → Float
-largerFrom low [] = low
-largerFrom low (x ∷ xs) = largerFrom (larger low x) xs
 
 -- every entry is finite
 unfoldable pub allFinite : List Float → Bool

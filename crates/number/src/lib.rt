@@ -1,5 +1,5 @@
 // The methods of `f64` that the Rust calls, as functions of their own: each has an answer for every
-// binary64, and its contract says which (`specs/`).
+// binary64, and its contract says which (`specs/`). `extrema` has `max` and `min`.
 
 // 64ε and 192ε, where ε is `f64::EPSILON`
 pub const EPSILON64: f64 = 1.4210854715202004e-14;
@@ -10,14 +10,10 @@ pub const EPSILON192: f64 = 4.263256414560601e-14;
 pub const MIN_POSITIVE: f64 = 2.2250738585072014e-308;
 
 mod bits;
-mod extrema;
 mod parts;
 
 pub use bits::from_bits;
 pub use bits::to_bits;
-pub use extrema::larger;
-pub use extrema::max;
-pub use extrema::min;
 pub use parts::abs;
 pub use parts::all_finite;
 pub use parts::entry;

@@ -3,8 +3,8 @@ ghost use mathlib.Core.Path.{_≡_};
 ghost use lib.Ieee as Ieee;
 ghost use lib.Ieee.{binary64};
 ghost use Rattle.number.specs.Binary64 as Binary64;
-ghost use Rattle.number.specs.Extrema as Extrema;
 ghost use Rattle.number.specs.Parts as Parts;
+ghost use Rattle.extrema.specs.Extrema as Extrema;
 ghost use Rattle.root.specs.Root as Root;
 
 #[no_mangle]
@@ -39,14 +39,14 @@ pub extern "C" fn pixel_step_recip(x: f64) -> f64
 pub extern "C" fn pixel_step_max(x: f64, y: f64) -> f64
     ensures { λ r. ⌜ r ≡ Extrema.max x y ⌝ }
 {
-    number::max(x, y)
+    extrema::max(x, y)
 }
 
 #[no_mangle]
 pub extern "C" fn pixel_step_min(x: f64, y: f64) -> f64
     ensures { λ r. ⌜ r ≡ Extrema.min x y ⌝ }
 {
-    number::min(x, y)
+    extrema::min(x, y)
 }
 
 #[no_mangle]

@@ -8,10 +8,11 @@ use lib.Ieee.{Float, lt, ofBits}
 use lib.Ieee.Bits.{is-true}
 use lib.Ieee.Fits.{and-l, and-r}
 use Rattle.number.specs.Binary64.{_⊗_, zero, recip}
-use Rattle.number.specs.Extrema.{larger}
 use Rattle.number.specs.Parts.{isFinite, nonneg, positiveFinite}
 use Rattle.number.specs.Vectors.{_!_}
-use Rattle.number.proofs.Order.{largest-three, nonneg-above, nonneg-recip}
+use Rattle.number.proofs.Order.{nonneg-above, nonneg-recip}
+use Rattle.extrema.specs.Extrema.{larger}
+use Rattle.extrema.proofs.Laws.{largest-three}
 use Rattle.refusal.specs.Rows as Rows
 use Rattle.refusal.specs.Refused.{of, none, isRowNone, isNone}
 use Rattle.refusal.specs.declared.Refusal.{Refusal}

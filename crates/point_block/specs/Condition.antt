@@ -4,7 +4,8 @@ use mathlib.Core.List.{List, [], _∷_}
 use lib.Ieee.{Float}
 use Rattle.number.specs.Binary64.{_⊗_, zero, one, recip}
 use Rattle.number.specs.Parts.{abs, positiveFinite}
-use Rattle.number.specs.Vectors.{_!_, sum, largest}
+use Rattle.number.specs.Vectors.{_!_, sum}
+use Rattle.extrema.specs.Extrema.{largest}
 use Rattle.point_block.specs.Factor.{solve}
 
 -- the sum of a row's absolute values

@@ -6,10 +6,11 @@ use mathlib.Core.List.{List, [], _∷_}
 use lib.Dec.{T}
 use lib.Ieee.{Float, ofBits}
 use Rattle.number.specs.Binary64.{_⊗_, zero, epsilon64}
-use Rattle.number.specs.Extrema.{larger, Larger}
 use Rattle.number.specs.Parts.{nonneg, positiveFinite}
 use Rattle.number.specs.Vectors.{_!_}
-use Rattle.number.proofs.Order.{largest-three, nonneg-largest, nonneg-floor}
+use Rattle.number.proofs.Order.{nonneg-floor}
+use Rattle.extrema.specs.Extrema.{larger, Larger}
+use Rattle.extrema.proofs.Laws.{largest-three, nonneg-largest}
 use Rattle.refusal.specs.Rows as Rows
 use Rattle.refusal.specs.Refused.{of, none, isNone}
 use Rattle.refusal.specs.declared.Refusal.{Refusal}

@@ -3,9 +3,9 @@ use mathlib.Core.Bool.{Bool, not, _&&_, cond}
 use mathlib.Core.List.{List, [], _∷_}
 use lib.Ieee.{Float, lt}
 use Rattle.number.specs.Binary64.{_⊕_, _⊗_, zero, epsilon64}
-use Rattle.number.specs.Extrema.{max}
 use Rattle.number.specs.Parts.{isFinite, positiveFinite}
-use Rattle.number.specs.Vectors.{_!_, largest}
+use Rattle.number.specs.Vectors.{_!_}
+use Rattle.extrema.specs.Extrema.{max, largest}
 use Rattle.refusal.specs.Rows as Rows
 use Rattle.refusal.specs.Refused.{of, none, isNone}
 use Rattle.point_damping.specs.declared.DampingDiagonal.{DampingDiagonal}

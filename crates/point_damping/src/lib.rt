@@ -69,7 +69,7 @@ pub fn floored_diagonal(m: [f64; 9]) -> [f64; 3]
 fn largest_diagonal(m: [f64; 9]) -> f64
     ensures { λ r. ⌜ r ≡ Damping.largestDiagonal m ⌝ }
 {
-    number::larger(number::larger(number::larger(0.0, m[0]), m[4]), m[8])
+    extrema::larger(extrema::larger(extrema::larger(0.0, m[0]), m[4]), m[8])
 }
 
 // The floored diagonal, from the largest entry, which is `scale`.
@@ -79,9 +79,9 @@ fn floored(m: [f64; 9], scale: f64) -> [f64; 3]
 {
     let floor = number::EPSILON64 * scale;
     [
-        number::larger(floor, m[0]),
-        number::larger(floor, m[4]),
-        number::larger(floor, m[8]),
+        extrema::larger(floor, m[0]),
+        extrema::larger(floor, m[4]),
+        extrema::larger(floor, m[8]),
     ]
 }
 

@@ -5,8 +5,8 @@ use mathlib.Core.List.{List, [], _∷_}
 use lib.Dec.{eqb}
 use lib.Ieee.{Float}
 use Rattle.number.specs.Binary64.{_⊕_, _⊗_, epsilon64, minPositive}
-use Rattle.number.specs.Extrema.{max}
-use Rattle.number.specs.Vectors.{_!_, sum, largest, tabulate}
+use Rattle.number.specs.Vectors.{_!_, sum, tabulate}
+use Rattle.extrema.specs.Extrema.{max, largest}
 
 -- a pose's curvature is taken as at least this
 unfoldable pub poseFloor : List Float → Float

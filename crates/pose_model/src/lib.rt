@@ -10,7 +10,7 @@ ghost use Rattle.pose_model.specs.PoseModel as PoseModel;
 fn pose_floor(d: [f64; 5]) -> f64
     ensures { λ r. ⌜ r ≡ PoseModel.poseFloor d ⌝ }
 {
-    number::EPSILON64 * number::max(gradient_norm::largest5(d), number::MIN_POSITIVE)
+    number::EPSILON64 * extrema::max(gradient_norm::largest5(d), number::MIN_POSITIVE)
 }
 
 // The pose diagonal, each entry at least the floor
@@ -20,7 +20,7 @@ fn damping_diagonal(d: [f64; 5]) -> [f64; 5]
     let floor = pose_floor(d);
     let mut out = [0.0; 5];
     for i in 0..5 {
-        out[i] = number::max(d[i], floor);
+        out[i] = extrema::max(d[i], floor);
     }
     out
 }

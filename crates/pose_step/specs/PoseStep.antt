@@ -3,9 +3,9 @@ use mathlib.Core.Bool.{cond}
 use mathlib.Core.List.{List, [], _∷_}
 use lib.Ieee.{Float, neg, lt}
 use Rattle.number.specs.Binary64.{_⊗_, _⊘_, half}
-use Rattle.number.specs.Extrema.{max}
 use Rattle.root.specs.Root.{sqrt}
 use Rattle.number.specs.Vectors.{_!_, sum, tabulate}
+use Rattle.extrema.specs.Extrema.{max}
 
 abbrev pub squared : Float → Float
 squared x = x ⊗ x

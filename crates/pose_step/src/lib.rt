@@ -31,7 +31,7 @@ fn step_length(x: [f64; 5]) -> f64
 {
     let rotation = root::sqrt(-0.0 + x[0] * x[0] + x[1] * x[1] + x[2] * x[2]);
     let translation = root::sqrt(-0.0 + x[3] * x[3] + x[4] * x[4]);
-    number::max(rotation, translation)
+    extrema::max(rotation, translation)
 }
 
 // The limited step of a solution

@@ -7,9 +7,9 @@ use lib.Dec.{T}
 use lib.Ieee.{Float, le}
 use Rattle.number.specs.Binary64.{_⊗_, zero, epsilon64}
 use Rattle.number.specs.Parts.{isFinite, abs}
-use Rattle.number.specs.Extrema.{larger}
 use Rattle.number.specs.Vectors.{_!_}
-use Rattle.number.proofs.Order.{largest-three}
+use Rattle.extrema.specs.Extrema.{larger}
+use Rattle.extrema.proofs.Laws.{largest-three}
 use Rattle.projection.specs.declared.PinholeCamera.{PinholeCamera}
 use Rattle.projection.specs.declared.Projected.{Projected}
 use Rattle.refusal.specs.Refused.{isNone}

@@ -4,7 +4,8 @@ use mathlib.Core.List.{List, [], _∷_}
 use lib.Ieee.{Float, neg, le}
 use Rattle.number.specs.Binary64.{_⊕_, _⊖_, _⊗_, zero, epsilon64, recip}
 use Rattle.number.specs.Parts.{isFinite, abs}
-use Rattle.number.specs.Vectors.{_!_, largest}
+use Rattle.number.specs.Vectors.{_!_}
+use Rattle.extrema.specs.Extrema.{largest}
 use Rattle.refusal.specs.Rows as Rows
 use Rattle.refusal.specs.Refused.{of, none}
 use Rattle.projection.specs.declared.PinholeCamera.{PinholeCamera}

@@ -2,8 +2,8 @@
 use mathlib.Core.Bool.{Bool, true, _&&_, cond}
 use mathlib.Core.List.{List}
 use lib.Ieee.{Float}
+use Rattle.extrema.specs.Extrema.{max}
 use Rattle.number.specs.Binary64.{_⊕_, _⊖_, _⊗_, zero, half, one}
-use Rattle.number.specs.Extrema.{max}
 use Rattle.number.specs.Vectors.{tabulate, allFinite}
 use Rattle.refusal.specs.Rows as Rows
 use Rattle.refusal.specs.Refused.{of, none}

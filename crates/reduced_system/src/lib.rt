@@ -87,7 +87,7 @@ impl ReducedSystem {
     {
         let gradient = self.full_pose_gradient;
         let diagonal = self.pose_diagonal;
-        number::max(
+        extrema::max(
             self.scaled_point_gradient_inf_norm,
             gradient_norm::norm5(gradient, diagonal),
         )

@@ -35,11 +35,11 @@ pub fn is_finite(case: Case) -> Outcome {
 }
 
 pub fn max(case: Case) -> Outcome {
-    Outcome::one(case, number::max(case.number(0), case.number(1)))
+    Outcome::one(case, extrema::max(case.number(0), case.number(1)))
 }
 
 pub fn min(case: Case) -> Outcome {
-    Outcome::one(case, number::min(case.number(0), case.number(1)))
+    Outcome::one(case, extrema::min(case.number(0), case.number(1)))
 }
 
 pub fn to_bits(case: Case) -> Outcome {

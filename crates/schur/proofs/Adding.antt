@@ -8,7 +8,7 @@ use borrow.Author.Tests.{not-true, not-false}
 use lib.Dec.{leb, ltb, leb→le, ltb→lt}
 use lib.Ieee.{Float, eq, le}
 use Rattle.number.specs.Binary64.{_⊕_, zero, epsilon192}
-use Rattle.number.specs.Extrema.{max, min}
+use Rattle.extrema.specs.Extrema.{max, min}
 use Rattle.refusal.specs.Rows as Rows
 use Rattle.refusal.specs.Refused.{of, none, isNone}
 use Rattle.refusal.specs.declared.Refusal.{Refusal}

@@ -12,9 +12,10 @@ use lib.Ieee.Bits.{is-true}
 use lib.Ieee.Fits.{add-fits}
 use Rattle.number.specs.Binary64.{_⊕_, zero}
 use Rattle.number.specs.Parts.{nonneg}
-use Rattle.number.specs.Extrema.{min}
-use Rattle.number.proofs.Order.{min-le-left, le-refl, nonneg-not-nan, nonneg-add, nonneg-min}
+use Rattle.number.proofs.Order.{le-refl, nonneg-not-nan, nonneg-add}
 use Rattle.number.proofs.Monotone.{le-add, le-trans, zero-le, nonneg-zero}
+use Rattle.extrema.specs.Extrema.{min}
+use Rattle.extrema.proofs.Laws.{min-le-left, nonneg-min}
 use Rattle.refusal.specs.Rows as Rows
 use Rattle.refusal.specs.Refused.{of, none, isNone}
 use Rattle.point_block.specs.Condition.{reciprocalConditionNumber}

@@ -4,8 +4,8 @@ use mathlib.Core.Bool.{Bool, false, cond}
 use mathlib.Core.List.{List}
 use lib.Dec.{leb, ltb}
 use lib.Ieee.{Float, le, eq}
+use Rattle.extrema.specs.Extrema.{max, min}
 use Rattle.number.specs.Binary64.{_⊕_, zero, epsilon192}
-use Rattle.number.specs.Extrema.{max, min}
 use Rattle.refusal.specs.Rows as Rows
 use Rattle.refusal.specs.Refused.{of, none, isNone}
 use Rattle.point_block.specs.Condition.{reciprocalConditionNumber}

@@ -98,7 +98,7 @@ fn eliminated(
         let matrix = local.point_hessian;
         let rcond = factor.reciprocal_condition_number(matrix);
         weak = raised(rcond <= number::EPSILON192, weak);
-        smallest = number::min(smallest, rcond);
+        smallest = extrema::min(smallest, rcond);
     }
     Change {
         hessian,
@@ -149,7 +149,7 @@ fn taken_with(system: ReducedSystem, local: LocalLinearization, change: Change) 
         full_pose_gradient: pose_model::sum5(full_gradient, pose_gradient),
         pose_diagonal: pose_model::sum5(diagonal, pose_model::diagonal5(pose_hessian)),
         point_model_reduction: change.point_model_reduction,
-        scaled_point_gradient_inf_norm: number::max(
+        scaled_point_gradient_inf_norm: extrema::max(
             system.scaled_point_gradient_inf_norm,
             gradient_norm::point_gradient_norm(point_gradient, point_hessian),
         ),

@@ -2,7 +2,7 @@
 use mathlib.Core.Path.{refl}
 use lib.Ieee.{neg, add, sub, mul, div, lt, eq, le, isNan, ofBits, size, units}
 use Rattle.number.specs.Parts.{negative, isFinite, abs, magnitude}
-use Rattle.number.specs.Extrema.{max}
+use Rattle.extrema.specs.Extrema.{max}
 use Rattle.root.specs.Root.{sqrt}
 use Rattle.refusal.specs.Refused.{isNone}
 use Rattle.projection.specs.Projection.{inFront, linearized, allFinite, notProjectable, pixelProjection}

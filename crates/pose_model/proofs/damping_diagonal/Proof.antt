@@ -4,8 +4,8 @@ use Prim.Native.Nat.{_-_, _≤_}
 use native.Mathlib.Omega.{arith}
 use borrow.Author.Needs.{needs}
 use Rattle.number.proofs.Fill.{filledOf, array-none, array-next, array-full}
-use Rattle.number.specs.Extrema.{max}
 use Rattle.number.specs.Vectors.{_!_}
+use Rattle.extrema.specs.Extrema.{max}
 use Rattle.pose_model.specs.PoseModel.{dampingDiagonal}
 use Rattle.pose_model.proofs.damping_diagonal.Statement.{statement}
 use Rattle.pose_model.proofs.damping_diagonal.Tie as tie

@@ -1,12 +1,12 @@
--- `number::larger` meets its contract. Assumes nothing.
+-- `extrema::larger` meets its contract. Assumes nothing.
 use mathlib.Core.Path.{sym, subst}
 use mathlib.Core.Bool.{Bool, cond}
 use lib.Dec.{T}
 use lib.Ieee.{binary64}
-use Rattle.number.specs.Extrema.{Larger, larger}
-use Rattle.number.proofs.Order.{larger-is}
-use Rattle.number.proofs.extrema.larger.Statement.{statement}
-use Rattle.number.proofs.extrema.larger.Tie as tie
+use Rattle.extrema.specs.Extrema.{Larger, larger}
+use Rattle.extrema.proofs.Laws.{larger-is}
+use Rattle.extrema.proofs.larger.Statement.{statement}
+use Rattle.extrema.proofs.larger.Tie as tie
 
 meets : (c : tie.Start) → Larger (c .args .low) (c .args .x) (larger (c .args .low) (c .args .x))
 meets c = larger-is binary64 (c .args .low) (c .args .x) (subst T (sym (c .good .0 .1)) tt) (subst T (sym (c .good .1 .0 .1)) tt)

@@ -1,9 +1,11 @@
 -- `f64::max` and `f64::min` as document 01 has them: a NaN is passed over when the other is a number. Of unlike zeros `max` gives +0 and `min` gives −0.
 use mathlib.Core.Path.{_≡_}
 use mathlib.Core.Bool.{not, _&&_, _||_, cond}
+use mathlib.Core.List.{List, [], _∷_}
 use lib.Dec.{T}
 use lib.Ieee.{Float, isNan, lt, eq}
+use Rattle.number.specs.Binary64.{zero}
 use Rattle.number.specs.Parts.{negative, nonneg}
 
 -- x where y is no number, where x is above y, and where the two are equal and x has no sign
 unfoldable pub max : Float → Float → Float
@@ -22,3 +24,17 @@ pub record Larger (low x r : Float) : Type 0 where
   pub is : r ≡ larger low x
   pub first : T (nonneg low) → r ≡ max low x
   pub second : T (nonneg low) → r ≡ max x low
+
+-- `.fold(low, f64::max)`
+abbrev pub maxFrom : Float → List Float → Float
+maxFrom low [] = low
+maxFrom low (x ∷ xs) = maxFrom (max low x) xs
+
+-- `.fold(0.0, f64::max)`
+abbrev pub largest : List Float → Float
+largest xs = maxFrom zero xs
+
+-- the same by one comparison each, which serves from a low that is a number with the sign clear
+abbrev pub largerFrom : Float → List Float → Float
+largerFrom low [] = low
+largerFrom low (x ∷ xs) = largerFrom (larger low x) xs

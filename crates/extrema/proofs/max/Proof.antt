@@ -1,11 +1,11 @@
--- `number::max` meets its contract, case by case. Assumes nothing.
+-- `extrema::max` meets its contract, case by case. Assumes nothing.
 use mathlib.Core.Path.{_∙_}
 use mathlib.Core.Logic.{⊎-elim, inl, inr}
 use lib.Ieee.{binary64}
-use Rattle.number.specs.Extrema.{max}
-use Rattle.number.proofs.Picks.{pick-ahead, pick-number, pick-tie, pick-other, eq-number, clear-test}
-use Rattle.number.proofs.extrema.max.Statement.{statement}
-use Rattle.number.proofs.extrema.max.Tie as tie
+use Rattle.extrema.specs.Extrema.{max}
+use Rattle.extrema.proofs.Picks.{pick-ahead, pick-number, pick-tie, pick-other, eq-number, clear-test}
+use Rattle.extrema.proofs.max.Statement.{statement}
+use Rattle.extrema.proofs.max.Tie as tie
 
 pub max-spec : {M : Type 1} → statement M
 unfolding max

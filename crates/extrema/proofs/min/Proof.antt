@@ -1,11 +1,11 @@
--- `number::min` meets its contract, case by case. Assumes nothing.
+-- `extrema::min` meets its contract, case by case. Assumes nothing.
 use mathlib.Core.Path.{_∙_}
 use mathlib.Core.Logic.{⊎-elim, inl, inr}
 use lib.Ieee.{binary64}
-use Rattle.number.specs.Extrema.{min}
-use Rattle.number.proofs.Picks.{pick-ahead, pick-number, pick-tie, pick-other, eq-number, sign-test}
-use Rattle.number.proofs.extrema.min.Statement.{statement}
-use Rattle.number.proofs.extrema.min.Tie as tie
+use Rattle.extrema.specs.Extrema.{min}
+use Rattle.extrema.proofs.Picks.{pick-ahead, pick-number, pick-tie, pick-other, eq-number, sign-test}
+use Rattle.extrema.proofs.min.Statement.{statement}
+use Rattle.extrema.proofs.min.Tie as tie
 
 pub min-spec : {M : Type 1} → statement M
 unfolding min

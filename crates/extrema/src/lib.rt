@@ -1,6 +1,6 @@
 // `f64::max` and `f64::min`, with document 01's rule for unlike zeros.
 ghost use mathlib.Core.Path.{_≡_};
-ghost use Rattle.number.specs.Extrema as Extrema;
+ghost use Rattle.extrema.specs.Extrema as Extrema;
 
 // The sign's bit of x
 const SIGN: u64 = 0x8000_0000_0000_0000;
