@@ -15,7 +15,7 @@ use Rattle.refusal.specs.Refused.{none}
 use Rattle.point_damping.specs.Damping.{goodDamping}
 use Rattle.point_block.proofs.Laws.{lone-factors}
 use Rattle.linearization.specs.Linearize.{pointTerms}
-use Rattle.pose_model.specs.PoseModel.{dampedHessian}
+use Rattle.pose_damping.specs.PoseDamping.{dampedHessian}
 use Rattle.reduced_system.specs.Model.{newSystem, withHessian, finishDamping, isValid}
 use Rattle.point_step.specs.PointStep.{stepped, stepOfTerms, pointStep}
 use Rattle.schur.specs.Claim.{WeakCount}

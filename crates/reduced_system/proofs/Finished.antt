@@ -9,7 +9,7 @@ use Rattle.refusal.specs.Rows as Rows
 use Rattle.refusal.specs.Refused.{of, none}
 use Rattle.refusal.specs.declared.Refusal.{Refusal}
 use Rattle.point_damping.specs.Damping.{goodDamping}
-use Rattle.pose_model.specs.PoseModel.{dampedHessian}
+use Rattle.pose_damping.specs.PoseDamping.{dampedHessian}
 use Rattle.reduced_system.specs.declared.ReducedSystem.{ReducedSystem}
 use Rattle.reduced_system.specs.Model.{withHessian, finishDamping, reductionOf, predictedReduction}
 

@@ -9,7 +9,8 @@ use Rattle.refusal.specs.Rows as Rows
 use Rattle.refusal.specs.Refused.{of, none}
 use Rattle.point_damping.specs.Damping.{goodDamping}
 use Rattle.gradient_norm.specs.GradientNorm.{scaledGradientInfNorm}
-use Rattle.pose_model.specs.PoseModel.{dampedHessian, dot5, quadratic, poseDampingNorm}
+use Rattle.pose_damping.specs.PoseDamping.{dampedHessian, poseDampingNorm}
+use Rattle.pose_model.specs.PoseModel.{dot5, quadratic}
 use Rattle.reduced_system.specs.declared.ReducedSystem.{ReducedSystem}
 use Rattle.reduced_system.specs.declared.Added.{Added}
 use Rattle.reduced_system.specs.declared.Predicted.{Predicted}

@@ -67,7 +67,7 @@ impl ReducedSystem {
         let h = self.hessian;
         let d = self.pose_diagonal;
         Added {
-            system: self.with_hessian(pose_model::damped_hessian(h, d, damping)),
+            system: self.with_hessian(pose_damping::damped_hessian(h, d, damping)),
             refusal: Refusal::none(),
         }
     }
@@ -124,7 +124,7 @@ impl ReducedSystem {
             - pose_model::dot5(gradient, step)
             - 0.5 * pose_model::quadratic(hessian, step);
         damped
-            + 0.5 * damping * (pose_model::pose_damping_norm(diagonal, step) + point_damping_norm)
+            + 0.5 * damping * (pose_damping::pose_damping_norm(diagonal, step) + point_damping_norm)
     }
 
     fn with_hessian(mut self, hessian: [f64; 25]) -> Self

@@ -1,10 +1,10 @@
--- `pose_model::damped_entry` meets its contract. Assumes nothing.
+-- `pose_damping::damped_entry` meets its contract. Assumes nothing.
 use mathlib.Core.Path.{refl}
 use native.Mathlib.Omega.{arith}
 use borrow.Author.Tests.{eq-eqb, ne-eqb}
-use Rattle.pose_model.specs.PoseModel.{dampedEntry}
-use Rattle.pose_model.proofs.damped_entry.Statement.{statement}
-use Rattle.pose_model.proofs.damped_entry.Tie as tie
+use Rattle.pose_damping.specs.PoseDamping.{dampedEntry}
+use Rattle.pose_damping.proofs.damped_entry.Statement.{statement}
+use Rattle.pose_damping.proofs.damped_entry.Tie as tie
 
 returns : tie.Need-returns
 unfolding dampedEntry

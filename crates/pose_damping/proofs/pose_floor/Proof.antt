@@ -1,9 +1,9 @@
--- `pose_model::pose_floor` meets its contract. Assumes nothing.
-use Rattle.pose_model.specs.PoseModel.{poseFloor}
+-- `pose_damping::pose_floor` meets its contract. Assumes nothing.
+use Rattle.pose_damping.specs.PoseDamping.{poseFloor}
 use mathlib.Core.Path.{refl}
 use borrow.Author.Needs.{needs}
-use Rattle.pose_model.proofs.pose_floor.Statement.{statement}
-use Rattle.pose_model.proofs.pose_floor.Tie as tie
+use Rattle.pose_damping.proofs.pose_floor.Statement.{statement}
+use Rattle.pose_damping.proofs.pose_floor.Tie as tie
 
 returns : tie.Need-returns
 unfolding poseFloor

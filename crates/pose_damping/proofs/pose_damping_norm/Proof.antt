@@ -1,4 +1,4 @@
--- `pose_model::pose_damping_norm` meets its contract. Assumes nothing.
+-- `pose_damping::pose_damping_norm` meets its contract. Assumes nothing.
 use mathlib.Core.Path.{_≡_, refl}
 use Prim.Native.Nat.{_-_, _≤_}
 use native.Mathlib.Omega.{arith}
@@ -6,9 +6,10 @@ use borrow.Author.Needs.{needs}
 use Rattle.number.proofs.Fill.{filledOf, array-none, array-next, array-full}
 use Rattle.number.specs.Binary64.{_⊗_}
 use Rattle.number.specs.Vectors.{_!_}
-use Rattle.pose_model.specs.PoseModel.{dot5, poseDampingNorm}
-use Rattle.pose_model.proofs.pose_damping_norm.Statement.{statement}
-use Rattle.pose_model.proofs.pose_damping_norm.Tie as tie
+use Rattle.pose_model.specs.PoseModel.{dot5}
+use Rattle.pose_damping.specs.PoseDamping.{poseDampingNorm}
+use Rattle.pose_damping.proofs.pose_damping_norm.Statement.{statement}
+use Rattle.pose_damping.proofs.pose_damping_norm.Tie as tie
 
 abbrev Inv-loop : tie.InvT-loop
 Inv-loop step diagonal scaled₀ i₀ scaled i = (i ≤ 5) × (scaled ≡ filledOf 5 (λ i. diagonal ! i ⊗ step ! i) i)

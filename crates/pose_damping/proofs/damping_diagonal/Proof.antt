@@ -1,4 +1,4 @@
--- `pose_model::damping_diagonal` meets its contract. Assumes nothing.
+-- `pose_damping::damping_diagonal` meets its contract. Assumes nothing.
 use mathlib.Core.Path.{_≡_}
 use Prim.Native.Nat.{_-_, _≤_}
 use native.Mathlib.Omega.{arith}
@@ -6,9 +6,9 @@ use borrow.Author.Needs.{needs}
 use Rattle.number.proofs.Fill.{filledOf, array-none, array-next, array-full}
 use Rattle.number.specs.Vectors.{_!_}
 use Rattle.extrema.specs.Extrema.{max}
-use Rattle.pose_model.specs.PoseModel.{dampingDiagonal}
-use Rattle.pose_model.proofs.damping_diagonal.Statement.{statement}
-use Rattle.pose_model.proofs.damping_diagonal.Tie as tie
+use Rattle.pose_damping.specs.PoseDamping.{dampingDiagonal}
+use Rattle.pose_damping.proofs.damping_diagonal.Statement.{statement}
+use Rattle.pose_damping.proofs.damping_diagonal.Tie as tie
 
 abbrev Inv-loop : tie.InvT-loop
 Inv-loop d floor out₀ i₀ out i = (i ≤ 5) × (out ≡ filledOf 5 (λ i. max (d ! i) floor) i)

@@ -1,12 +1,12 @@
--- `pose_model::damped_hessian` meets its contract. Assumes nothing.
+-- `pose_damping::damped_hessian` meets its contract. Assumes nothing.
 use mathlib.Core.Path.{_≡_}
 use Prim.Native.Nat.{_-_, _≤_}
 use native.Mathlib.Omega.{arith}
 use borrow.Author.Needs.{needs}
 use Rattle.number.proofs.Fill.{filledOf, array-none, array-next, array-full}
-use Rattle.pose_model.specs.PoseModel.{dampedEntry, dampedHessian}
-use Rattle.pose_model.proofs.damped_hessian.Statement.{statement}
-use Rattle.pose_model.proofs.damped_hessian.Tie as tie
+use Rattle.pose_damping.specs.PoseDamping.{dampedEntry, dampedHessian}
+use Rattle.pose_damping.proofs.damped_hessian.Statement.{statement}
+use Rattle.pose_damping.proofs.damped_hessian.Tie as tie
 
 abbrev Inv-loop : tie.InvT-loop
 Inv-loop h damping diagonal out₀ k₀ out k = (k ≤ 25) × (out ≡ filledOf 25 (λ k. dampedEntry h diagonal damping k) k)
