@@ -14,7 +14,8 @@ use refusal::Refusal;
 
 const MINIMUM_POINTS: u32 = 5;
 
-const MAXIMUM_POINTS: usize = 65535;
+// Row 2
+pub const MAXIMUM_POINTS: usize = 65535;
 
 // The first of rows 1 to 9 that a problem meets; row 1 is tested without the room.
 pub fn refused<'a>(

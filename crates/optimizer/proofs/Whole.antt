@@ -2,28 +2,32 @@
 use mathlib.Core.Path.{_≡_, refl, sym, ap, _∙_}
 use mathlib.Core.Bool.{Bool, true, false, not, true≢false}
 use mathlib.Core.List.{List}
-use Prim.Native.Nat.{ℕ, _*_}
+use Prim.Native.Nat.{ℕ, _*_, _≤_}
 use borrow.Author.Tests.{not-true, not-false, eqb-true, ne-eqb}
 use lib.Dec.{eqb}
 use lib.ListN.{length}
 use lib.Ieee.{Float}
 use Rattle.refusal.specs.Rows as Rows
 use Rattle.refusal.specs.First.{unless, orElse}
-use Rattle.refusal.specs.Refused.{of, none, isNone}
+use Rattle.refusal.specs.Refused.{of, isNone}
 use Rattle.refusal.specs.declared.Refusal.{Refusal}
 use Rattle.solver.specs.Solver.{solvePositiveDefinite}
 use Rattle.solver.specs.declared.Solved.{Solved}
 use Rattle.reduced_system.specs.Model.{isValid}
 use Rattle.reduced_system.specs.declared.ReducedSystem.{ReducedSystem}
 use Rattle.optimizer.specs.declared.StepResult.{StepResult}
-use Rattle.optimizer.specs.declared.point_steps.Sums.{Sums}
+use Rattle.point_steps.specs.PointSteps.{stepsTo, sumsTo}
+use Rattle.point_steps.specs.declared.Sums.{Sums}
 use Rattle.correspondences.specs.Problem.{Problem, count}
 use Rattle.checks.specs.Checks as Checks
 use Rattle.pose_step.specs.PoseStep.{poseStep}
-use Rattle.optimizer.specs.Step.{reducedSystem, noSystem, reduced, solvedOf, poseStepOf, stepsTo, sumsTo, finished, notStepped, stepped, solvedStep, refused, step, written, Done}
+use Rattle.assembly.specs.Assembly.{reducedSystem, reduced}
+use Rattle.assembly.specs.declared.Reduced.{Reduced}
+use Rattle.assembly.proofs.Systems.{refused-system, given-system}
+use Rattle.optimizer.specs.Step.{solvedOf, poseStepOf, finished, notStepped, stepped, solvedStep, refused, step, written, Done}
 use Rattle.refusal.proofs.Scans.{row-refuses}
 use Rattle.checks.proofs.Passed.{checked}
-use Rattle.optimizer.proofs.PointSteps.{no-step-refused}
+use Rattle.point_steps.proofs.PointSteps.{no-step-refused}
 
 -- rows 10 and 11, and the step
 module _ (p : Problem) (room : List Float) (r : StepResult) (system : ReducedSystem) (e : system ≡ reducedSystem p) (valid : Bool) (f : valid ≡ isValid system) where
@@ -66,18 +70,6 @@ module _ (p : Problem) (room : List Float) (r : StepResult) (system : ReducedSys
         m .1 ∙ ap (λ (y : List Float). stepsTo p y (count p)) same-step ∙ sym writes,
       )
 
-pub passed : (x v : Refusal) (b : Bool) → v ≡ x → b ≡ isNone v → not b ≡ false → isNone x ≡ true
-passed x v b e f t = ap isNone (sym e) ∙ sym f ∙ not-false b t
-
-module _ (p : Problem) (v : Refusal) (e : v ≡ Checks.refused p) (b : Bool) (f : b ≡ isNone v) (s : ReducedSystem) where
-  pub not-reduced : not b ≡ true → s ≡ noSystem → record { system = s; refusal = v } ≡ reduced p
-  unfolding reduced
-  not-reduced t g = rw (← e, ← f, not-true b t, g) refl
-
-  pub reduces : not b ≡ false → s ≡ reducedSystem p → (n : Refusal) → n ≡ none → record { system = s; refusal = n } ≡ reduced p
-  unfolding reduced
-  reduces t g n h = rw (← e, ← f, not-false b t, g, h) refl
-
 -- ---- row 1 with the room: the points' length decides where the two agree, and one of them is wrong where they do not
 
 points-short : (p : Problem) → eqb (length (p .points)) (3 * count p) ≡ false → Checks.refused p ≡ of Rows.lengths
@@ -100,6 +92,14 @@ lengths-agree p room t = by (eqb room (3 * count p)) refl
     by true q = refl
     by false q = sym (points-short p (ap (λ (l : ℕ). eqb l (3 * count p)) (sym t) ∙ q))
 
+-- what a system that is not refused leaves for the step
+pub fits : (p : Problem) (room : List Float) → length room ≡ length (p .points) → (x : Reduced) → x ≡ reduced p → (b : Bool) → b ≡ isNone (x .refusal) → not b ≡ false
+    → (count p ≤ Checks.maxPoints) × (length room ≡ 3 * count p) × (x .system ≡ reducedSystem p)
+fits p room t x f b g u =
+    let s = given-system p x f b g u in
+    let k = checked p (s .0) .0 in
+    (k .3, t ∙ k .0, s .1)
+
 -- ---- the ways out of the whole step
 
 module _ (p : Problem) (room : List Float) (r : StepResult) where
@@ -114,18 +114,16 @@ module _ (p : Problem) (room : List Float) (r : StepResult) where
   pub wrong-room : (length room ≡ length (p .points) → ⊥) → (x : Refusal) → x ≡ of Rows.lengths → r ≡ notStepped x → Done p room r room
   wrong-room t x g h = refuses (of Rows.lengths) (row-refuses Rows.lengths 0 0 refl) (lengths-differ p (length room) t) (h ∙ ap notStepped g)
 
-  module _ (t : length room ≡ length (p .points)) (v : Refusal) (f : v ≡ Checks.refused p) (b : Bool) (g : b ≡ isNone v) where
-    same-refusal : refused p (length room) ≡ v
-    same-refusal = lengths-agree p (length room) t ∙ sym f
-
-    pub checks-refused : not b ≡ true → r ≡ notStepped v → Done p room r room
-    checks-refused u h = refuses v (sym g ∙ not-true b u) same-refusal h
+  module _ (t : length room ≡ length (p .points)) (x : Reduced) (f : x ≡ reduced p) (b : Bool) (g : b ≡ isNone (x .refusal)) where
+    pub checks-refused : not b ≡ true → r ≡ notStepped (x .refusal) → Done p room r room
+    checks-refused u h = let s = refused-system p x f b g u in refuses (x .refusal) (s .0) (lengths-agree p (length room) t ∙ sym (s .1)) h
 
     pub done : not b ≡ false → (after : List Float) → (r ≡ solvedStep p) × (after ≡ written p r room) → Done p room r after
     unfolding step
     done u after m =
-        let k = checked p (passed (Checks.refused p) v b f g u) in record {
-          result = m .0 ∙ rw (same-refusal, ← g, not-false b u) refl;
+        let s = given-system p x f b g u in
+        let k = checked p (s .0) in record {
+          result = m .0 ∙ rw (lengths-agree p (length room) t, s .0) refl;
           room-after = m .1;
           none-refused = λ y v. no-step-refused p (k .1) (k .0 .3) v;
         }

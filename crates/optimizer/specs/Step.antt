@@ -1,74 +1,30 @@
 -- `refine_impl` of optimizer.rs from `reduced_system` to `predicted_reduction`, once: document 01, "One whole step".
-use Prim.Native.Nat.{ℕ, zero, suc, _*_, _<_}
+use Prim.Native.Nat.{ℕ, _*_, _<_}
 use mathlib.Core.Path.{_≡_}
-use mathlib.Core.Bool.{true, false, cond}
-use mathlib.Core.List.{List, [], _∷_, _++_}
+use mathlib.Core.Bool.{true, cond}
+use mathlib.Core.List.{List}
 use lib.Dec.{eqb}
 use lib.IntN.{pos}
 use lib.ListN.{length}
 use lib.Ieee.{Float, binary64, ofInt}
-use Rattle.number.specs.Binary64.{_⊕_, _⊘_, zero as zero·}
+use Rattle.number.specs.Binary64.{_⊘_, zero as zero·}
 use Rattle.root.specs.Root.{sqrt}
-use Rattle.number.specs.Vectors.{_!_, sum, tabulate}
+use Rattle.number.specs.Vectors.{tabulate}
 use Rattle.refusal.specs.Rows as Rows
 use Rattle.refusal.specs.First.{unless, orElse}
 use Rattle.refusal.specs.Refused.{of, none, isNone}
 use Rattle.refusal.specs.declared.Refusal.{Refusal}
-use Rattle.linearization.specs.Linearize.{linearizePoint}
-use Rattle.linearization.specs.declared.linearize.LocalLinearization.{LocalLinearization}
-use Rattle.views.specs.declared.Correspondence.{Correspondence}
-use Rattle.correspondences.specs.Problem.{Problem, count, correspondenceAt}
+use Rattle.correspondences.specs.Problem.{Problem, count}
 use Rattle.checks.specs.Checks as Checks
-use Rattle.correspondences.specs.declared.Rig.{Rig}
 use Rattle.solver.specs.Solver.{solvePositiveDefinite}
 use Rattle.solver.specs.declared.Solved.{Solved}
-use Rattle.schur.specs.System.{add}
-use Rattle.reduced_system.specs.Model.{newSystem, finishDamping, isValid, gradientInfNorm, predictedReduction}
-use Rattle.point_step.specs.PointStep.{pointStep}
-use Rattle.pose_step.specs.PoseStep.{squared, poseStep}
+use Rattle.reduced_system.specs.Model.{isValid, gradientInfNorm, predictedReduction}
+use Rattle.assembly.specs.Assembly.{reducedSystem}
+use Rattle.pose_step.specs.PoseStep.{poseStep}
 use Rattle.reduced_system.specs.declared.ReducedSystem.{ReducedSystem}
-use Rattle.point_step.specs.declared.PointStep.{PointStep}
+use Rattle.point_steps.specs.PointSteps.{stepAt, stepsTo, sumsTo}
+use Rattle.point_steps.specs.declared.Sums.{Sums}
 use Rattle.optimizer.specs.declared.StepResult.{StepResult}
-use Rattle.optimizer.specs.declared.point_steps.Sums.{Sums}
-use Rattle.optimizer.specs.declared.reduced.Reduced.{Reduced}
-
--- the block of a correspondence
-unfoldable pub blockOf : Rig → Correspondence → LocalLinearization
-blockOf h correspondence = linearizePoint (h .camera1) (h .camera2) (h .pose) correspondence
-
-abbrev pub blockAt : Problem → ℕ → LocalLinearization
-blockAt p i = blockOf (p .rig) (correspondenceAt (p .points) (p .view1) (p .view2) (p .deviations) i)
-
--- the system with the first blocks added, in their order
-unfoldable pub systemTo : Problem → ℕ → ReducedSystem
-systemTo p zero = newSystem
-systemTo p (suc n) = add (systemTo p n) (blockAt p n) (p .damping) .system
-
--- `reduced_system`: all blocks, then the pose damping
-unfoldable pub reducedSystem : Problem → ReducedSystem
-reducedSystem p = finishDamping (systemTo p (count p)) (p .damping) .system
-
--- beside a refusal: every number +0, and the flag false
-unfoldable pub noSystem : ReducedSystem
-noSystem = record {
-  hessian = tabulate 25 (λ i. zero·);
-  gradient = tabulate 5 (λ i. zero·);
-  cost = zero·;
-  «squared_residual» = zero·;
-  «full_pose_gradient» = tabulate 5 (λ i. zero·);
-  «pose_diagonal» = tabulate 5 (λ i. zero·);
-  «point_model_reduction» = zero·;
-  «scaled_point_gradient_inf_norm» = zero·;
-  «weak_point_count» = 0;
-  «minimum_point_rcond» = zero·;
-  valid = false;
-  «block_count» = 0;
-}
-
--- the system of a problem that rows 1 to 9 let through
-unfoldable pub reduced : Problem → Reduced
-reduced p =
-    cond (isNone (Checks.refused p)) (record { system = reducedSystem p; refusal = none }) (record { system = noSystem; refusal = Checks.refused p })
 
 -- ---- the step of the pose
 
@@ -79,32 +35,10 @@ solvedOf p = solvePositiveDefinite (reducedSystem p .hessian) (reducedSystem p .
 unfoldable pub poseStepOf : Problem → List Float
 poseStepOf p = poseStep (solvedOf p .x)
 
--- ---- the steps of the points, and their sums as `candidate_cost` has them, from +0
-
-unfoldable pub pointStepOf : Rig → Correspondence → Float → List Float → PointStep
-pointStepOf h correspondence damping s = pointStep (blockOf h correspondence) damping s
-
-abbrev pub stepAt : Problem → List Float → ℕ → PointStep
-stepAt p s i = pointStepOf (p .rig) (correspondenceAt (p .points) (p .view1) (p .view2) (p .deviations) i) (p .damping) s
-
-unfoldable pub stepsTo : Problem → List Float → ℕ → List Float
-stepsTo p s zero = []
-stepsTo p s (suc n) = stepsTo p s n ++ stepAt p s n .step
-
-abbrev pub squaredNorm : List Float → Float
-squaredNorm x = sum (squared (x ! 0) ∷ squared (x ! 1) ∷ squared (x ! 2) ∷ [])
-
-unfoldable pub sumsTo : Problem → List Float → ℕ → Sums
-sumsTo p s zero = record { squared = zero·; «damping_norm» = zero· }
-sumsTo p s (suc n) = record {
-  squared = sumsTo p s n .squared ⊕ squaredNorm (stepAt p s n .step);
-  «damping_norm» = sumsTo p s n .«damping_norm» ⊕ stepAt p s n .«damping_norm»;
-}
+-- ---- the whole
 
 abbrev pub rms : Float → ℕ → Float
 rms squares n = sqrt (squares ⊘ ofInt binary64 (pos n))
-
--- ---- the whole
 
 -- the result, from the system, the limited step of the pose and the sums
 unfoldable pub finished : ReducedSystem → List Float → Float → ℕ → Sums → StepResult

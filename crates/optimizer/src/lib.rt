@@ -2,12 +2,8 @@
 // SPDX-License-Identifier: MIT OR Apache-2.0
 
 // One whole step of the two-view problem over lent memory: kernel/two_view/optimizer.rs.
-mod point_steps;
-mod reduced;
 mod whole_step;
 
-pub use reduced::Reduced;
-pub use reduced::reduced_system;
 use refusal::Refusal;
 pub use whole_step::step;
 

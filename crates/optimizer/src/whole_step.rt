@@ -5,12 +5,11 @@
 ghost use mathlib.Core.Path.{_≡_};
 ghost use Prim.Native.Nat.{_≤_, _*_};
 ghost use lib.ListN.{length};
+ghost use Rattle.assembly.specs.Assembly as Assembly;
 ghost use Rattle.checks.specs.Checks as Checks;
 ghost use Rattle.correspondences.specs.Problem as Problem;
 ghost use Rattle.optimizer.specs.Step as Steps;
 use crate::StepResult;
-use crate::point_steps;
-use crate::reduced;
 use correspondences::Rig;
 use reduced_system::ReducedSystem;
 use refusal::Refusal;
@@ -28,15 +27,26 @@ pub fn step<'a>(
     ensures { λ r. ⌜ Steps.Done (Problem.problem (now (points .entry)) (now (view1 .entry)) (now (view2 .entry)) (now («inverse_deviations» .entry)) rig damping)
         (now (room .entry)) r (now (room .exit)) ⌝ }
 {
-    // Where the two lengths differ, one of them is not 3n; where they do not, the checks test both.
+    // Where the two lengths differ, one of them is not 3n; where they do not, `reduced_system` tests both.
     if room.len() != points.len() {
         return not_stepped(Refusal::of(refusal::LENGTHS));
     }
-    let refusal = checks::refused(points, view1, view2, inverse_deviations, rig, damping);
+    let reduced = assembly::reduced_system(points, view1, view2, inverse_deviations, rig, damping);
+    let refusal = reduced.refusal;
     if !refusal.is_none() {
         return not_stepped(refusal);
     }
-    solved_step(points, view1, view2, inverse_deviations, rig, damping, room)
+    let system = reduced.system;
+    solved_step(
+        points,
+        view1,
+        view2,
+        inverse_deviations,
+        rig,
+        damping,
+        system,
+        room,
+    )
 }
 
 // Rows 10 and 11, then the step
@@ -47,13 +57,14 @@ fn solved_step(
     inverse_deviations: &[f64],
     rig: Rig,
     damping: f64,
+    system: ReducedSystem,
     room: &mut [f64],
 ) -> StepResult
-    requires { ⌜ (length (now «inverse_deviations») ≤ Checks.maxPoints) × (length (now room) ≡ 3 * length (now «inverse_deviations»)) ⌝ }
+    requires { ⌜ (length (now «inverse_deviations») ≤ Checks.maxPoints) × (length (now room) ≡ 3 * length (now «inverse_deviations»))
+        × (system ≡ Assembly.reducedSystem (Problem.problem (now points) (now view1) (now view2) (now «inverse_deviations») rig damping)) ⌝ }
     ensures { λ r. ⌜ (r ≡ Steps.solvedStep (Problem.problem (now (points .entry)) (now (view1 .entry)) (now (view2 .entry)) (now («inverse_deviations» .entry)) rig damping))
         × (now (room .exit) ≡ Steps.written (Problem.problem (now (points .entry)) (now (view1 .entry)) (now (view2 .entry)) (now («inverse_deviations» .entry)) rig damping) r (now (room .entry))) ⌝ }
 {
-    let system = reduced::damped_system(points, view1, view2, inverse_deviations, rig, damping);
     if !system.is_valid() {
         return not_stepped(Refusal::of(refusal::NOT_FACTORED));
     }

@@ -18,9 +18,9 @@ use Rattle.correspondences.specs.Problem.{Problem, count}
 use Rattle.reduced_system.specs.Model.{isValid}
 use Rattle.reduced_system.specs.declared.ReducedSystem.{ReducedSystem}
 use Rattle.checks.specs.Checks as Checks
-use Rattle.optimizer.specs.Step.{blockAt, reducedSystem}
+use Rattle.assembly.specs.Assembly.{blockAt, reducedSystem}
 use Rattle.checks.proofs.Passed.{checked}
-use Rattle.optimizer.proofs.PointSteps.{weak-at-most, costs-are-numbers}
+use Rattle.assembly.proofs.Blocks.{weak-at-most, costs-are-numbers}
 use Rattle.hex.specs.Hex.{digits}
 use Rattle.fields.specs.Fields.{pointFields}
 use Rattle.record_form.specs.Form as Form

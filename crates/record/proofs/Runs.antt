@@ -15,10 +15,10 @@ use Rattle.number.specs.Vectors.{_!_, tabulate}
 use Rattle.number.proofs.Fill.{length-tabulate, filled}
 use Rattle.views.specs.declared.Correspondence.{Correspondence}
 use Rattle.linearization.specs.declared.linearize.LocalLinearization.{LocalLinearization}
+use Rattle.assembly.specs.Assembly.{reduced, blockOf, blockAt}
+use Rattle.assembly.specs.declared.Reduced.{Reduced}
 use Rattle.correspondences.specs.declared.Rig.{Rig}
 use Rattle.correspondences.specs.Problem.{Problem, problem, correspondenceAt}
-use Rattle.optimizer.specs.Step.{reduced, blockOf, blockAt}
-use Rattle.optimizer.specs.declared.reduced.Reduced.{Reduced}
 use Rattle.fields.specs.Fields.{pointFields}
 use Rattle.run.specs.Run.{numberAt, rig, damping, column, run, correspondenceOf}
 use Rattle.lines.specs.Lines.{letter, pointLine}

@@ -13,7 +13,7 @@ use Rattle.correspondences.specs.declared.Rig.{Rig}
 use Rattle.correspondences.specs.Problem.{Problem}
 use Rattle.reduced_system.specs.declared.ReducedSystem.{ReducedSystem}
 use Rattle.checks.specs.Checks as Checks
-use Rattle.optimizer.specs.Step.{blockAt, reducedSystem}
+use Rattle.assembly.specs.Assembly.{blockAt, reducedSystem}
 use Rattle.fields.specs.Fields.{pointFields}
 use Rattle.record_form.specs.Form as Form
 use Rattle.run.specs.Run.{rig, run, damping}

@@ -2,7 +2,7 @@
 ghost use mathlib.Core.Bool.{true};
 ghost use mathlib.Core.Path.{_≡_};
 ghost use Rattle.refusal.specs.Refused.{isNone};
-ghost use Rattle.optimizer.specs.Step as Steps;
+ghost use Rattle.assembly.specs.Assembly as Assembly;
 ghost use Rattle.fields.specs.Fields as Fields;
 ghost use Rattle.record_form.specs.Form as Form;
 ghost use Rattle.run.specs.Run as Run;
@@ -65,9 +65,9 @@ fn put_formed(out: &mut [u8], record: &[u8]) -> usize
 }
 
 // The system of a record of the right form
-fn reduced_system(record: &[u8], rig: Rig, damping: f64) -> optimizer::Reduced
+fn reduced_system(record: &[u8], rig: Rig, damping: f64) -> assembly::Reduced
     requires { ⌜ Lists.Read (now «record») rig damping ⌝ }
-    ensures { λ r. ⌜ r ≡ Steps.reduced (Run.run (now («record» .entry))) ⌝ }
+    ensures { λ r. ⌜ r ≡ Assembly.reduced (Run.run (now («record» .entry))) ⌝ }
 {
     let n = fields::point_fields(record);
     let twice = 2 * n;
@@ -76,7 +76,7 @@ fn reduced_system(record: &[u8], rig: Rig, damping: f64) -> optimizer::Reduced
     let view1 = points::column(record, 24, 2, twice);
     let view2 = points::column(record, 40, 2, twice);
     let deviations = points::column(record, 56, 1, n);
-    optimizer::reduced_system(
+    assembly::reduced_system(
         &points[..thrice],
         &view1[..twice],
         &view2[..twice],

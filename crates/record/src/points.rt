@@ -3,7 +3,7 @@ ghost use mathlib.Core.Path.{_≡_};
 ghost use Prim.Native.Nat.{_≤_, _<_, _*_, _+_};
 ghost use lib.ListN.{take};
 ghost use Rattle.number.specs.Vectors as Vectors;
-ghost use Rattle.optimizer.specs.Step as Steps;
+ghost use Rattle.assembly.specs.Assembly as Assembly;
 ghost use Rattle.fields.specs.Fields as Fields;
 ghost use Rattle.record_form.specs.Form as Form;
 ghost use Rattle.run.specs.Run as Run;
@@ -41,7 +41,7 @@ pub(crate) fn column(
 // The block of a point
 pub(crate) fn block_at(record: &[u8], rig: Rig, i: usize) -> LocalLinearization
     requires { ⌜ (i < Fields.pointFields (now «record»)) × Form.Formed (now «record») ⌝ }
-    ensures { λ r. ⌜ r ≡ Steps.blockOf rig (Run.correspondenceOf (now («record» .entry)) i) ⌝ }
+    ensures { λ r. ⌜ r ≡ Assembly.blockOf rig (Run.correspondenceOf (now («record» .entry)) i) ⌝ }
 {
     let camera1 = rig.camera1;
     let camera2 = rig.camera2;

@@ -1,7 +1,7 @@
 -- `record::points::block_at` meets its contract. Assumes nothing.
 use mathlib.Core.Path.{ap, _∙_}
 use Rattle.views.specs.declared.Correspondence.{Correspondence}
-use Rattle.optimizer.specs.Step.{blockOf}
+use Rattle.assembly.specs.Assembly.{blockOf}
 use native.Mathlib.Omega.{arith}
 use borrow.Author.Needs.{needs}
 use Rattle.record.proofs.points.block_at.Statement.{statement}

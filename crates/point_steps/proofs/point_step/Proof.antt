@@ -1,10 +1,10 @@
--- `optimizer::point_steps::point_step` meets its contract. Assumes nothing.
+-- `point_steps::point_step` meets its contract. Assumes nothing.
 use Rattle.point_step.specs.PointStep.{pointStep}
-use Rattle.optimizer.specs.Step.{pointStepOf}
+use Rattle.point_steps.specs.PointSteps.{pointStepOf}
 use mathlib.Core.Path.{refl}
 use borrow.Author.Needs.{needs}
-use Rattle.optimizer.proofs.point_steps.point_step.Statement.{statement}
-use Rattle.optimizer.proofs.point_steps.point_step.Tie as tie
+use Rattle.point_steps.proofs.point_step.Statement.{statement}
+use Rattle.point_steps.proofs.point_step.Tie as tie
 
 returns : tie.Need-returns
 unfolding pointStepOf pointStep

@@ -1,4 +1,4 @@
--- The two passes over all points: the system that takes each block in, and the room that is filled with the steps. Assumes nothing.
+-- The pass over all points that fills the room with their steps, and its sums. Assumes nothing.
 use mathlib.Core.Path.{_≡_, refl, sym, ap, _∙_}
 use mathlib.Core.Bool.{Bool, true, false, cond}
 use mathlib.Core.List.{List, [], _∷_, _++_, append-nil}
@@ -8,42 +8,23 @@ use native.Mathlib.Omega.{arith}
 use lib.ListN.{length, take, drop, set, length-set, length-append}
 use lib.Seq.{sets-eq, take-at, drop-append-add, drop-drop, drop-length}
 use lib.Ieee.{Float}
-use Rattle.number.specs.Binary64.{_⊕_, zero as zero·}
+use Rattle.number.specs.Binary64.{_⊕_}
 use Rattle.number.specs.Vectors.{_!_}
 use Rattle.refusal.specs.Refused.{isNone}
 use Rattle.point_damping.specs.Damping.{goodDamping}
 use Rattle.point_block.specs.Lone.{factor}
-use Rattle.schur.specs.System.{add}
-use Rattle.reduced_system.specs.Model.{newSystem, finishDamping}
 use Rattle.linearization.specs.Linearize.{pointTerms}
 use Rattle.point_step.specs.PointStep.{stepOf, stepped, notStepped, stepOfTerms, pointStep}
 use Rattle.linearization.specs.declared.linearize.LocalLinearization.{LocalLinearization}
 use Rattle.views.specs.declared.Correspondence.{Correspondence}
 use Rattle.point_step.specs.declared.PointStep.{PointStep}
 use Rattle.correspondences.specs.Problem.{Problem, count, correspondenceAt}
-use Rattle.reduced_system.specs.declared.ReducedSystem.{ReducedSystem}
-use Rattle.reduced_system.specs.declared.Added.{Added}
-use Rattle.optimizer.specs.Step.{blockOf, systemTo, reducedSystem, pointStepOf, stepAt, stepsTo, squaredNorm, sumsTo}
+use Rattle.assembly.specs.Assembly.{blockOf}
+use Rattle.point_steps.specs.PointSteps.{pointStepOf, stepAt, stepsTo, squaredNorm, noSteps, sumsTo, Fits, Wrote}
+use Rattle.point_steps.specs.declared.Sums.{Sums}
 
 abbrev correspondence : Problem → ℕ → Correspondence
 correspondence p i = correspondenceAt (p .points) (p .view1) (p .view2) (p .deviations) i
-
--- ---- the system
-
-pub system-none : (p : Problem) (s : ReducedSystem) → s ≡ newSystem → s ≡ systemTo p 0
-unfolding systemTo
-system-none p s e = e
-
-pub system-next : (p : Problem) (i : ℕ) (s : ReducedSystem) (d : Correspondence) (b : LocalLinearization) (a : Added) → s ≡ systemTo p i → d ≡ correspondence p i → b ≡ blockOf (p .rig) d
-    → a ≡ add s b (p .damping) → a .system ≡ systemTo p (i + 1)
-unfolding systemTo
-system-next p i s d b a e f g k = rw (add-one i, k, g, f, e) refl
-
-pub system-all : (p : Problem) (i : ℕ) (s : ReducedSystem) (a : Added) → s ≡ systemTo p i → i ≡ count p → a ≡ finishDamping s (p .damping) → a .system ≡ reducedSystem p
-unfolding reducedSystem
-system-all p i s a e f g = rw (g, e, f) refl
-
--- ---- the steps
 
 three : (x : List Float) → length x ≡ 3 → x ! 0 ∷ x ! 1 ∷ x ! 2 ∷ [] ≡ x
 three [] e = absurd (omega arith)
@@ -119,7 +100,7 @@ module _ (p : Problem) (s : List Float) where
 
   -- ---- their sums
 
-  pub sums-none : sumsTo p s 0 ≡ record { squared = zero·; «damping_norm» = zero· }
+  pub sums-none : sumsTo p s 0 ≡ noSteps
   unfolding sumsTo
   sums-none = refl
 
@@ -133,3 +114,11 @@ module _ (p : Problem) (s : List Float) where
 
   pub both-sums : (i n : ℕ) (q m : Float) → i ≡ n → q ≡ sumsTo p s i .squared → m ≡ sumsTo p s i .«damping_norm» → record { squared = q; «damping_norm» = m } ≡ sumsTo p s n
   both-sums i n q m k e f = rw (e, f) (ap (λ (j : ℕ). sumsTo p s j) k)
+
+  -- ---- a call, whatever the room
+
+  pub all-written : (room after : List Float) (r : Sums) → Fits (count p) room → (r ≡ sumsTo p s (count p)) × (after ≡ stepsTo p s (count p)) → Wrote p s room r after
+  all-written room after r h e = record { fits = λ k. e; does-not-fit = λ k. absurd (k h) }
+
+  pub not-written : (room : List Float) (r : Sums) → (Fits (count p) room → ⊥) → r ≡ noSteps → Wrote p s room r room
+  not-written room r h e = record { fits = λ k. absurd (h k); does-not-fit = λ k. (e, refl) }

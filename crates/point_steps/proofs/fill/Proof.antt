@@ -1,17 +1,17 @@
--- `optimizer::point_steps::write_steps` meets its contract. Assumes nothing.
+-- `point_steps::fill` meets its contract. Assumes nothing.
 use lib.ListN.{length, set}
 use lib.Seq.{lt-length-set}
 use Rattle.point_step.specs.declared.PointStep.{PointStep}
 use Rattle.correspondences.specs.Problem.{problem}
-use Rattle.optimizer.specs.Step.{sumsTo}
-use Rattle.optimizer.proofs.Passes.{stepped-at, Filled, room-none, room-length, room-next, room-full, sums-none, squared-next, norm-next, both-sums}
-use Rattle.optimizer.specs.declared.point_steps.Sums.{Sums}
+use Rattle.point_steps.specs.PointSteps.{sumsTo}
+use Rattle.point_steps.proofs.Passes.{stepped-at, Filled, room-none, room-length, room-next, room-full, sums-none, squared-next, norm-next, both-sums}
+use Rattle.point_steps.specs.declared.Sums.{Sums}
 use mathlib.Core.Path.{sym, ap, _∙_, _≡_, refl}
 use Prim.Native.Nat.{_+_, _*_, _-_, _≤_, _<_}
 use native.Mathlib.Omega.{arith}
 use borrow.Author.Needs.{needs}
-use Rattle.optimizer.proofs.point_steps.write_steps.Statement.{statement}
-use Rattle.optimizer.proofs.point_steps.write_steps.Tie as tie
+use Rattle.point_steps.proofs.fill.Statement.{statement}
+use Rattle.point_steps.proofs.fill.Tie as tie
 
 abbrev Inv-loop : tie.InvT-loop
 Inv-loop points view1 view2 inverse-deviations rig damping pose-step room₀ squared₀ damping-norm₀ i₀ i-end room squared damping-norm i =
@@ -69,8 +69,8 @@ returns c =
     let n : l .loop .i ≡ length (a .inverse-deviations .now) = omega arith in
     (both-sums p (a .pose-step) _ _ _ _ n (l .loop .inv .4) (l .loop .inv .5), room-full p (a .pose-step) _ _ _ _ (l .loop .inv .3) n (omega arith))
 
-pub write-steps-spec : {M : Type 1} → statement M
-write-steps-spec =
+pub fill-spec : {M : Type 1} → statement M
+fill-spec =
     tie.close
     (tie.spec
     Inv-loop

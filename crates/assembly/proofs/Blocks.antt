@@ -1,4 +1,4 @@
--- "Once the system is valid no point step is refused" (document 01, "One whole step"): the claim on lists of calls of `add` says that each block factors. Assumes nothing.
+-- The blocks of a problem by the claim on lists of calls of `add`: where the system is valid each factors; how many are weak; and the costs are numbers. Assumes nothing.
 use mathlib.Core.Path.{_≡_, refl, sym, ap, _∙_}
 use mathlib.Core.Bool.{Bool, true, false, not, _&&_, cond}
 use mathlib.Core.List.{List, [], _∷_}
@@ -11,13 +11,9 @@ use lib.ListN.{length}
 use lib.Ieee.{Float, nan, inf, fin, le, isNan}
 use lib.Ieee.Bits.{is-true}
 use Rattle.number.specs.Vectors.{allFinite}
-use Rattle.refusal.specs.Refused.{none}
 use Rattle.point_damping.specs.Damping.{goodDamping}
-use Rattle.point_block.proofs.Laws.{lone-factors}
-use Rattle.linearization.specs.Linearize.{pointTerms}
 use Rattle.pose_damping.specs.PoseDamping.{dampedHessian}
 use Rattle.reduced_system.specs.Model.{newSystem, withHessian, finishDamping, isValid}
-use Rattle.point_step.specs.PointStep.{stepped, stepOfTerms, pointStep}
 use Rattle.schur.specs.Claim.{WeakCount}
 use Rattle.schur.specs.Calls.{Inputs, Call, atDamping, after, factors, smallRcond, atZero, blocksIn, all, filter}
 use Rattle.linearization.specs.declared.linearize.LocalLinearization.{LocalLinearization}
@@ -25,7 +21,7 @@ use Rattle.reduced_system.specs.declared.ReducedSystem.{ReducedSystem}
 use Rattle.schur.proofs.Claim.{claim}
 use Rattle.correspondences.specs.Problem.{Problem, count, correspondenceAt}
 use Rattle.checks.proofs.Passed.{both-hold}
-use Rattle.optimizer.specs.Step.{blockOf, blockAt, systemTo, reducedSystem, pointStepOf, stepAt}
+use Rattle.assembly.specs.Assembly.{blockOf, blockAt, systemTo, reducedSystem}
 
 -- ---- the problem's blocks as calls of `add`, from an index on
 
@@ -60,7 +56,7 @@ each p good i (suc n) (suc j) e h =
     ap (λ (k : ℕ). good (blockAt p k)) (add-suc i j ∙ sym (suc-add i j))
     ∙ each p good (suc i) n j (both-hold (good (blockAt p i)) (all good (blocks p (suc i) n)) e .1) (omega arith)
 
--- ---- a valid system, and a block that factors
+-- ---- a valid system, and blocks that factor
 
 valid-flag : (s : ReducedSystem) → isValid s ≡ true → s .valid ≡ true
 unfolding isValid
@@ -70,10 +66,6 @@ valid-flag s e = both-hold (s .valid) (allFinite (s .gradient)) (both-hold (s .v
 damped : (s : ReducedSystem) (d : Float) → T (goodDamping d) → finishDamping s d .system ≡ withHessian s (dampedHessian (s .hessian) (s .«pose_diagonal») d)
 unfolding finishDamping
 damped s d g = rw (is-true (goodDamping d) g) refl
-
-steps : (b : LocalLinearization) (d : Float) (s : List Float) → T (goodDamping d) → factors d b ≡ true → pointStep b d s .refusal ≡ none
-unfolding pointStep stepOfTerms pointTerms stepped factors
-steps b d s g e = rw (is-true (goodDamping d) g, sym (lone-factors (b .«point_hessian») d g) ∙ e) refl
 
 -- every block of a problem that has a valid system factors
 module _ (p : Problem) (good : T (goodDamping (p .damping))) (h : count p ≤ 65535) (valid : isValid (reducedSystem p) ≡ true) where
@@ -87,11 +79,8 @@ module _ (p : Problem) (good : T (goodDamping (p .damping))) (h : count p ≤ 65
       ∙ ap (λ (t : ReducedSystem). t .valid) (sym (damped (systemTo p (count p)) (p .damping) good))
       ∙ valid-flag (reducedSystem p) valid
 
-  pub no-step-refused : (i : ℕ) → i < count p → (s : List Float) → stepAt p s i .refusal ≡ none
-  unfolding pointStepOf
-  no-step-refused i k s =
-      steps (blockAt p i) (p .damping) s good
-      (ap (λ (j : ℕ). factors (p .damping) (blockAt p j)) (sym (zero-add i)) ∙ each p (factors (p .damping)) 0 (count p) i all-factor k)
+  pub block-factors : (i : ℕ) → i < count p → factors (p .damping) (blockAt p i) ≡ true
+  block-factors i k = ap (λ (j : ℕ). factors (p .damping) (blockAt p j)) (sym (zero-add i)) ∙ each p (factors (p .damping)) 0 (count p) i all-factor k
 
 -- ---- the weak count is at most the number of points
 

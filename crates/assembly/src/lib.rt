@@ -1,13 +1,13 @@
 // SPDX-FileCopyrightText: 2026 Pierre Moulon and OpenMVG Rust contributors
 // SPDX-License-Identifier: MIT OR Apache-2.0
 
-// The reduced system of a whole problem.
+// The reduced system of a whole problem, from the blocks of all points: kernel/two_view/optimizer.rs.
 ghost use mathlib.Core.Path.{_≡_};
 ghost use Prim.Native.Nat.{_≤_};
 ghost use lib.ListN.{length};
 ghost use Rattle.checks.specs.Checks as Checks;
 ghost use Rattle.correspondences.specs.Problem as Problem;
-ghost use Rattle.optimizer.specs.Step as Steps;
+ghost use Rattle.assembly.specs.Assembly as Assembly;
 use correspondences::Rig;
 use linearization::LocalLinearization;
 use reduced_system::ReducedSystem;
@@ -29,7 +29,7 @@ pub fn reduced_system<'a>(
     rig: Rig,
     damping: f64,
 ) -> Reduced
-    ensures { λ r. ⌜ r ≡ Steps.reduced (Problem.problem (now (points .entry)) (now (view1 .entry)) (now (view2 .entry)) (now («inverse_deviations» .entry)) rig damping) ⌝ }
+    ensures { λ r. ⌜ r ≡ Assembly.reduced (Problem.problem (now (points .entry)) (now (view1 .entry)) (now (view2 .entry)) (now («inverse_deviations» .entry)) rig damping) ⌝ }
 {
     let refusal = checks::refused(points, view1, view2, inverse_deviations, rig, damping);
     if !refusal.is_none() {
@@ -46,7 +46,7 @@ pub fn reduced_system<'a>(
 }
 
 fn no_system() -> ReducedSystem
-    ensures { λ r. ⌜ r ≡ Steps.noSystem ⌝ }
+    ensures { λ r. ⌜ r ≡ Assembly.noSystem ⌝ }
 {
     ReducedSystem {
         hessian: [0.0; 25],
@@ -65,7 +65,7 @@ fn no_system() -> ReducedSystem
 }
 
 // All blocks added in their order, then the pose damping
-pub(crate) fn damped_system(
+fn damped_system(
     points: &[f64],
     view1: &[f64],
     view2: &[f64],
@@ -74,7 +74,7 @@ pub(crate) fn damped_system(
     damping: f64,
 ) -> ReducedSystem
     requires { ⌜ length (now «inverse_deviations») ≤ Checks.maxPoints ⌝ }
-    ensures { λ r. ⌜ r ≡ Steps.reducedSystem (Problem.problem (now (points .entry)) (now (view1 .entry)) (now (view2 .entry)) (now («inverse_deviations» .entry)) rig damping) ⌝ }
+    ensures { λ r. ⌜ r ≡ Assembly.reducedSystem (Problem.problem (now (points .entry)) (now (view1 .entry)) (now (view2 .entry)) (now («inverse_deviations» .entry)) rig damping) ⌝ }
 {
     let mut system = ReducedSystem::new();
     for i in 0..inverse_deviations.len() {
@@ -95,7 +95,7 @@ pub(crate) fn damped_system(
 
 // The block of a correspondence
 fn block_of(rig: Rig, correspondence: Correspondence) -> LocalLinearization
-    ensures { λ r. ⌜ r ≡ Steps.blockOf rig correspondence ⌝ }
+    ensures { λ r. ⌜ r ≡ Assembly.blockOf rig correspondence ⌝ }
 {
     let camera1 = rig.camera1;
     let camera2 = rig.camera2;

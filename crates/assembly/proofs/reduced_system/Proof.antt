@@ -1,10 +1,10 @@
--- `optimizer::reduced::reduced_system` meets its contract. Assumes nothing.
+-- `assembly::reduced_system` meets its contract. Assumes nothing.
 use Rattle.correspondences.specs.Problem.{problem}
 use Rattle.checks.proofs.Passed.{checked}
-use Rattle.optimizer.proofs.Whole.{passed, not-reduced, reduces}
+use Rattle.assembly.proofs.Systems.{passed, not-reduced, reduces}
 use borrow.Author.Needs.{needs}
-use Rattle.optimizer.proofs.reduced.reduced_system.Statement.{statement}
-use Rattle.optimizer.proofs.reduced.reduced_system.Tie as tie
+use Rattle.assembly.proofs.reduced_system.Statement.{statement}
+use Rattle.assembly.proofs.reduced_system.Tie as tie
 
 returns : tie.Need-returns
 returns c =

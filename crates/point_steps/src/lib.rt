@@ -1,14 +1,13 @@
 // SPDX-FileCopyrightText: 2026 Pierre Moulon and OpenMVG Rust contributors
 // SPDX-License-Identifier: MIT OR Apache-2.0
 
-// How all points move with a step of the pose: the steps in the lent room, and their sums.
+// How all points move with a step of the pose: the steps in the lent room, and their sums, as in kernel/two_view/optimizer.rs.
 ghost use mathlib.Core.Path.{_≡_};
-ghost use Prim.Native.Nat.{_≤_, _*_};
 ghost use lib.ListN.{length};
-ghost use Rattle.checks.specs.Checks as Checks;
+ghost use Rattle.assembly.specs.Assembly as Assembly;
 ghost use Rattle.correspondences.specs.Problem as Problem;
 ghost use Rattle.linearization.specs.Linearize as Linearize;
-ghost use Rattle.optimizer.specs.Step as Steps;
+ghost use Rattle.point_steps.specs.PointSteps as Steps;
 use correspondences::Rig;
 use linearization::PointTerms;
 use point_step::PointStep;
@@ -20,8 +19,9 @@ pub struct Sums {
     pub damping_norm: f64,
 }
 
-// Writes each point's step into the room.
-pub(crate) fn write_steps(
+// Writes each point's step into the room, where there are at most as many points as row 2 allows, and the room has three
+// numbers a point; else it stays as it was, and the sums are +0.
+pub fn write_steps(
     points: &[f64],
     view1: &[f64],
     view2: &[f64],
@@ -31,7 +31,47 @@ pub(crate) fn write_steps(
     pose_step: [f64; 5],
     room: &mut [f64],
 ) -> Sums
-    requires { ⌜ (length (now «inverse_deviations») ≤ Checks.maxPoints) × (length (now room) ≡ 3 * length (now «inverse_deviations»)) ⌝ }
+    ensures { λ r. ⌜ Steps.Wrote (Problem.problem (now (points .entry)) (now (view1 .entry)) (now (view2 .entry)) (now («inverse_deviations» .entry)) rig damping)
+        «pose_step» (now (room .entry)) r (now (room .exit)) ⌝ }
+{
+    if inverse_deviations.len() > checks::MAXIMUM_POINTS {
+        return no_steps();
+    }
+    if room.len() != 3 * inverse_deviations.len() {
+        return no_steps();
+    }
+    fill(
+        points,
+        view1,
+        view2,
+        inverse_deviations,
+        rig,
+        damping,
+        pose_step,
+        room,
+    )
+}
+
+fn no_steps() -> Sums
+    ensures { λ r. ⌜ r ≡ Steps.noSteps ⌝ }
+{
+    Sums {
+        squared: 0.0,
+        damping_norm: 0.0,
+    }
+}
+
+fn fill(
+    points: &[f64],
+    view1: &[f64],
+    view2: &[f64],
+    inverse_deviations: &[f64],
+    rig: Rig,
+    damping: f64,
+    pose_step: [f64; 5],
+    room: &mut [f64],
+) -> Sums
+    requires { ⌜ Steps.Fits (length (now «inverse_deviations»)) (now room) ⌝ }
     ensures { λ r. ⌜ (r ≡ Steps.sumsTo (Problem.problem (now (points .entry)) (now (view1 .entry)) (now (view2 .entry)) (now («inverse_deviations» .entry)) rig damping) «pose_step» (length (now («inverse_deviations» .entry))))
         × (now (room .exit) ≡ Steps.stepsTo (Problem.problem (now (points .entry)) (now (view1 .entry)) (now (view2 .entry)) (now («inverse_deviations» .entry)) rig damping) «pose_step» (length (now («inverse_deviations» .entry)))) ⌝ }
 {
@@ -73,7 +113,7 @@ fn point_step(
 
 // What that step needs of the correspondence's block
 fn point_terms_of(rig: Rig, correspondence: Correspondence) -> PointTerms
-    ensures { λ r. ⌜ r ≡ Linearize.pointTerms (Steps.blockOf rig correspondence) ⌝ }
+    ensures { λ r. ⌜ r ≡ Linearize.pointTerms (Assembly.blockOf rig correspondence) ⌝ }
 {
     let camera1 = rig.camera1;
     let camera2 = rig.camera2;

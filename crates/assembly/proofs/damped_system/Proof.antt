@@ -1,14 +1,14 @@
--- `optimizer::reduced::damped_system` meets its contract. Assumes nothing.
+-- `assembly::damped_system` meets its contract. Assumes nothing.
 use lib.ListN.{length}
 use Rattle.correspondences.specs.Problem.{problem}
-use Rattle.optimizer.specs.Step.{systemTo}
-use Rattle.optimizer.proofs.Passes.{system-none, system-next, system-all}
+use Rattle.assembly.specs.Assembly.{systemTo}
+use Rattle.assembly.proofs.Systems.{system-none, system-next, system-all}
 use mathlib.Core.Path.{_≡_, refl}
 use Prim.Native.Nat.{_-_, _≤_}
 use native.Mathlib.Omega.{arith}
 use borrow.Author.Needs.{needs}
-use Rattle.optimizer.proofs.reduced.damped_system.Statement.{statement}
-use Rattle.optimizer.proofs.reduced.damped_system.Tie as tie
+use Rattle.assembly.proofs.damped_system.Statement.{statement}
+use Rattle.assembly.proofs.damped_system.Tie as tie
 
 abbrev Inv-loop : tie.InvT-loop
 Inv-loop points view1 view2 inverse-deviations rig damping system₀ i₀ i-end system i = (i ≤ i-end) × (i-end ≡ length inverse-deviations) × (system ≡ systemTo (problem points view1 view2 inverse-deviations rig damping) i)

@@ -1,0 +1,2 @@
+-- The reduced system of a whole problem: optimizer.rs.
+pub mod Assembly

@@ -1,0 +1,2 @@
+-- The steps of all points: optimizer.rs.
+pub mod PointSteps
