@@ -1,4 +1,4 @@
--- What each call of the C interface answers, and what the memory that it may write holds afterwards: the result where nothing is refused, and what it held before otherwise. The calls on a system and the whole step are in `step_calls`.
+-- What each call of the C interface answers, and what the memory that it may write holds afterwards: the result where nothing is refused, and what it held before otherwise. The calls on a system are in `system_calls`, and the whole step is in `step_calls`.
 use Prim.Native.Nat.{ℕ}
 use mathlib.Core.Path.{_≡_}
 use mathlib.Core.Bool.{_&&_, cond}

@@ -1,13 +1,13 @@
 // The reduced system: 45 numbers, and beside them the weak count, the block count and the flag.
 ghost use Rattle.slices.specs.Answers as Answers;
-ghost use Rattle.step_calls.specs.Calls as Calls;
+ghost use Rattle.system_calls.specs.Calls as Calls;
 
 #[no_mangle]
 pub extern "C" fn pixel_step_system_new(system: &mut [f64], counts: &mut [u16]) -> u64
     ensures { λ r. ⌜ Calls.Changed r (now (system .exit)) (now (counts .exit))
         (Calls.newSystem (now (system .entry)) (now (counts .entry))) ⌝ }
 {
-    step_calls::system_new(system, counts)
+    system_calls::system_new(system, counts)
 }
 
 #[no_mangle]
@@ -20,7 +20,7 @@ pub extern "C" fn pixel_step_system_add(
     ensures { λ r. ⌜ Calls.Changed r (now (system .exit)) (now (counts .exit))
         (Calls.add (now (system .entry)) (now (counts .entry)) (now (block .entry)) damping) ⌝ }
 {
-    step_calls::system_add(system, counts, block, damping)
+    system_calls::system_add(system, counts, block, damping)
 }
 
 #[no_mangle]
@@ -32,7 +32,7 @@ pub extern "C" fn pixel_step_system_finish_damping(
     ensures { λ r. ⌜ Calls.Changed r (now (system .exit)) (now (counts .exit))
         (Calls.finishDamping (now (system .entry)) (now (counts .entry)) damping) ⌝ }
 {
-    step_calls::system_finish_damping(system, counts, damping)
+    system_calls::system_finish_damping(system, counts, damping)
 }
 
 // out: 0 or 1
@@ -41,7 +41,7 @@ pub extern "C" fn pixel_step_system_is_valid(system: &[f64], counts: &[u16], out
     ensures { λ r. ⌜ Answers.Answered r (now (out .exit))
         (Calls.isValid (now (system .entry)) (now (counts .entry)) (now (out .entry))) ⌝ }
 {
-    step_calls::system_is_valid(system, counts, out)
+    system_calls::system_is_valid(system, counts, out)
 }
 
 // out: 1
@@ -54,7 +54,7 @@ pub extern "C" fn pixel_step_system_scaled_gradient_inf_norm(
     ensures { λ r. ⌜ Answers.Answered r (now (out .exit))
         (Calls.gradientInfNorm (now (system .entry)) (now (counts .entry)) (now (out .entry))) ⌝ }
 {
-    step_calls::system_scaled_gradient_inf_norm(system, counts, out)
+    system_calls::system_scaled_gradient_inf_norm(system, counts, out)
 }
 
 // step: 5; out: 1
@@ -70,5 +70,5 @@ pub extern "C" fn pixel_step_system_predicted_reduction(
     ensures { λ r. ⌜ Answers.Answered r (now (out .exit))
         (Calls.predictedReduction (now (system .entry)) (now (counts .entry)) (now (step .entry)) damping «point_damping_norm» (now (out .entry))) ⌝ }
 {
-    step_calls::system_predicted_reduction(system, counts, step, damping, point_damping_norm, out)
+    system_calls::system_predicted_reduction(system, counts, step, damping, point_damping_norm, out)
 }

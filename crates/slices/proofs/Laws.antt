@@ -122,3 +122,9 @@ four-fit a b c d m n k j h =
     let l = last-fits (eqb a m && eqb b n && eqb c k) d j h in
     let r = three-fit a b c m n k (l .0) in
     (r .0, r .1, r .2, l .1)
+
+-- one number, written
+pub one-set : (l : List ℕ) (a : ℕ) → length l ≡ 1 → set l 0 a ≡ a ∷ []
+one-set [] a e = absurd (omega (arith, e))
+one-set (x ∷ []) a e = refl
+one-set (x ∷ y ∷ l) a e = absurd (omega (arith, e))

@@ -1,2 +1,2 @@
--- Laws of the calls on a system and of the whole step.
+-- Laws of the call of the whole step.
 pub mod Laws

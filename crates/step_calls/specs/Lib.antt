@@ -1,2 +1,2 @@
--- What the calls on a lent system and the whole step answer.
+-- What the call of the whole step answers.
 pub mod Calls

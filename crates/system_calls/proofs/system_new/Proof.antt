@@ -1,12 +1,12 @@
--- `step_calls::systems::system_new` meets its contract. Assumes nothing.
+-- `system_calls::system_new` meets its contract. Assumes nothing.
 use mathlib.Core.Path.{_≡_}
 use lib.ListN.{length}
-use Rattle.step_calls.specs.Calls.{newSystem}
+use Rattle.system_calls.specs.Calls.{newSystem}
 use Rattle.slices.proofs.Laws.{two-fit}
-use Rattle.step_calls.proofs.Laws.{too-short-system, changes}
+use Rattle.system_calls.proofs.Laws.{too-short-system, changes}
 use borrow.Author.Needs.{needs}
-use Rattle.step_calls.proofs.systems.system_new.Statement.{statement}
-use Rattle.step_calls.proofs.systems.system_new.Tie as tie
+use Rattle.system_calls.proofs.system_new.Statement.{statement}
+use Rattle.system_calls.proofs.system_new.Tie as tie
 
 fit : (c : tie.Else1) → (length (c .before .before .before .args .system .now) ≡ 45) × (length (c .before .before .before .args .counts .now) ≡ 3)
 fit c = two-fit (length (c .before .before .before .args .system .now)) (length (c .before .before .before .args .counts .now)) 45 3 (c .if1 .left)

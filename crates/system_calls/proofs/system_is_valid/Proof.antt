@@ -1,4 +1,4 @@
--- `step_calls::systems::system_is_valid` meets its contract. Assumes nothing.
+-- `system_calls::system_is_valid` meets its contract. Assumes nothing.
 use mathlib.Core.Path.{_≡_, ap, _∙_}
 use mathlib.Core.Bool.{Bool}
 use mathlib.Core.List.{[], _∷_}
@@ -8,13 +8,12 @@ use lib.ListN.{length}
 use Rattle.reduced_system.specs.Model as Model
 use Rattle.reduced_system.specs.declared.ReducedSystem.{ReducedSystem}
 use Rattle.slices.specs.Answers.{code}
-use Rattle.step_calls.specs.Calls.{isValid}
+use Rattle.system_calls.specs.Calls.{isValid}
 use Rattle.flat.specs.Flat.{flag}
-use Rattle.slices.proofs.Laws.{too-short, answers-none, three-fit}
-use Rattle.step_calls.proofs.Laws.{one-set}
+use Rattle.slices.proofs.Laws.{too-short, answers-none, three-fit, one-set}
 use borrow.Author.Needs.{needs}
-use Rattle.step_calls.proofs.systems.system_is_valid.Statement.{statement}
-use Rattle.step_calls.proofs.systems.system_is_valid.Tie as tie
+use Rattle.system_calls.proofs.system_is_valid.Statement.{statement}
+use Rattle.system_calls.proofs.system_is_valid.Tie as tie
 
 fit : (c : tie.Else1) → (length (c .before .before .before .before .args .system .now) ≡ 45) × (length (c .before .before .before .before .args .counts .now) ≡ 3) × (length (c .before .before .before .before .args .out .now) ≡ 1)
 fit c = three-fit (length (c .before .before .before .before .args .system .now)) (length (c .before .before .before .before .args .counts .now)) (length (c .before .before .before .before .args .out .now)) 45 3 1 (c .if1 .left)

@@ -1,4 +1,4 @@
--- `step_calls::steps::step` meets its contract. Assumes nothing.
+-- `step_calls::step` meets its contract. Assumes nothing.
 use mathlib.Core.Path.{_≡_}
 use lib.ListN.{length}
 use Rattle.correspondences.specs.Problem.{problem}
@@ -6,8 +6,8 @@ use Rattle.correspondences.specs.declared.Rig.{Rig}
 use Rattle.slices.proofs.Laws.{three-fit}
 use Rattle.step_calls.proofs.Laws.{too-short-step, steps}
 use borrow.Author.Needs.{needs}
-use Rattle.step_calls.proofs.steps.step.Statement.{statement}
-use Rattle.step_calls.proofs.steps.step.Tie as tie
+use Rattle.step_calls.proofs.step.Statement.{statement}
+use Rattle.step_calls.proofs.step.Tie as tie
 
 fit : (c : tie.Else1) → (length (c .before .before .before .before .before .before .before .before .before .args .rig .now) ≡ 29) × (length (c .before .before .before .before .before .before .before .before .before .args .out .now) ≡ 12) × (length (c .before .before .before .before .before .before .before .before .before .args .weak .now) ≡ 1)
 fit c = three-fit (length (c .before .before .before .before .before .before .before .before .before .args .rig .now)) (length (c .before .before .before .before .before .before .before .before .before .args .out .now)) (length (c .before .before .before .before .before .before .before .before .before .args .weak .now)) 29 12 1 (c .if1 .left)

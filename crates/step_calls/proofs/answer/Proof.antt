@@ -1,11 +1,10 @@
--- `step_calls::steps::answer` meets its contract. Assumes nothing.
+-- `step_calls::answer` meets its contract. Assumes nothing.
 use mathlib.Core.Path.{_≡_, sym, _∙_}
 use lib.ListN.{length}
-use Rattle.slices.proofs.Laws.{stored-none, stored-some}
-use Rattle.step_calls.proofs.Laws.{one-set}
+use Rattle.slices.proofs.Laws.{stored-none, stored-some, one-set}
 use borrow.Author.Needs.{needs}
-use Rattle.step_calls.proofs.steps.answer.Statement.{statement}
-use Rattle.step_calls.proofs.steps.answer.Tie as tie
+use Rattle.step_calls.proofs.answer.Statement.{statement}
+use Rattle.step_calls.proofs.answer.Tie as tie
 
 -- the array has its length
 sized : (c : tie.After-store-arg) → length (c .before .before .step-numbers .result) ≡ 12

@@ -1,9 +1,10 @@
-// The reduced system: 45 numbers, and beside them the weak count, the block count and the flag.
+// The calls of the C interface on a lent system: 45 numbers, and beside them the weak count, the block count and the flag.
+// `pixel_step` exports them.
 ghost use mathlib.Core.Path.{_≡_};
 ghost use lib.ListN.{length};
 ghost use Rattle.slices.specs.Answers as Answers;
 ghost use Rattle.flat.specs.Flat as Flat;
-ghost use Rattle.step_calls.specs.Calls as Calls;
+ghost use Rattle.system_calls.specs.Calls as Calls;
 use reduced_system::ReducedSystem;
 use refusal::Refusal;
 

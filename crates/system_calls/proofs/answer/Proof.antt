@@ -1,4 +1,4 @@
--- `step_calls::systems::answer` meets its contract. Assumes nothing.
+-- `system_calls::answer` meets its contract. Assumes nothing.
 use mathlib.Core.Path.{_≡_, sym, ap, _∙_}
 use mathlib.Core.List.{[], _∷_}
 use Prim.Native.Nat.{ℕ}
@@ -7,10 +7,10 @@ use lib.ListN.{length, set}
 use lib.Seq.{lt-length-set}
 use Rattle.flat.specs.Flat.{systemCounts}
 use Rattle.slices.proofs.Laws.{stored-none, stored-some}
-use Rattle.step_calls.proofs.Laws.{three-set}
+use Rattle.system_calls.proofs.Laws.{three-set}
 use borrow.Author.Needs.{needs}
-use Rattle.step_calls.proofs.systems.answer.Statement.{statement}
-use Rattle.step_calls.proofs.systems.answer.Tie as tie
+use Rattle.system_calls.proofs.answer.Statement.{statement}
+use Rattle.system_calls.proofs.answer.Tie as tie
 
 -- the array has its length
 sized : (c : tie.After-store-arg) → length (c .before .before .system-numbers .result) ≡ 45

@@ -1,4 +1,4 @@
--- `step_calls::systems::system_predicted_reduction` meets its contract. Assumes nothing.
+-- `system_calls::system_predicted_reduction` meets its contract. Assumes nothing.
 use mathlib.Core.Path.{_≡_, sym, ap, _∙_}
 use mathlib.Core.List.{List, [], _∷_}
 use lib.ListN.{length}
@@ -7,11 +7,11 @@ use Rattle.reduced_system.specs.Model as Model
 use Rattle.reduced_system.specs.declared.ReducedSystem.{ReducedSystem}
 use Rattle.reduced_system.specs.declared.Predicted.{Predicted}
 use Rattle.flat.specs.Flat.{system}
-use Rattle.step_calls.specs.Calls.{predictedReduction}
+use Rattle.system_calls.specs.Calls.{predictedReduction}
 use Rattle.slices.proofs.Laws.{whole, too-short, answers, four-fit}
 use borrow.Author.Needs.{needs}
-use Rattle.step_calls.proofs.systems.system_predicted_reduction.Statement.{statement}
-use Rattle.step_calls.proofs.systems.system_predicted_reduction.Tie as tie
+use Rattle.system_calls.proofs.system_predicted_reduction.Statement.{statement}
+use Rattle.system_calls.proofs.system_predicted_reduction.Tie as tie
 
 fit : (c : tie.Else1) → (length (c .before .before .before .before .before .args .system .now) ≡ 45) × (length (c .before .before .before .before .before .args .counts .now) ≡ 3) × (length (c .before .before .before .before .before .args .step .now) ≡ 5) × (length (c .before .before .before .before .before .args .out .now) ≡ 1)
 fit c = four-fit (length (c .before .before .before .before .before .args .system .now)) (length (c .before .before .before .before .before .args .counts .now)) (length (c .before .before .before .before .before .args .step .now)) (length (c .before .before .before .before .before .args .out .now)) 45 3 5 1 (c .if1 .left)

@@ -1,4 +1,4 @@
--- `step_calls::systems::system_add` meets its contract. Assumes nothing.
+-- `system_calls::system_add` meets its contract. Assumes nothing.
 use mathlib.Core.Path.{_≡_, ap, _∙_}
 use lib.ListN.{length}
 use Rattle.schur.specs.System as System
@@ -6,12 +6,12 @@ use Rattle.linearization.specs.declared.linearize.LocalLinearization.{LocalLine
 use Rattle.reduced_system.specs.declared.Added.{Added}
 use Rattle.reduced_system.specs.declared.ReducedSystem.{ReducedSystem}
 use Rattle.flat.specs.Flat.{system}
-use Rattle.step_calls.specs.Calls.{add}
+use Rattle.system_calls.specs.Calls.{add}
 use Rattle.slices.proofs.Laws.{three-fit}
-use Rattle.step_calls.proofs.Laws.{too-short-system, changes}
+use Rattle.system_calls.proofs.Laws.{too-short-system, changes}
 use borrow.Author.Needs.{needs}
-use Rattle.step_calls.proofs.systems.system_add.Statement.{statement}
-use Rattle.step_calls.proofs.systems.system_add.Tie as tie
+use Rattle.system_calls.proofs.system_add.Statement.{statement}
+use Rattle.system_calls.proofs.system_add.Tie as tie
 
 fit : (c : tie.Else1) → (length (c .before .before .before .before .args .system .now) ≡ 45) × (length (c .before .before .before .before .args .counts .now) ≡ 3) × (length (c .before .before .before .before .args .block .now) ≡ 59)
 fit c = three-fit (length (c .before .before .before .before .args .system .now)) (length (c .before .before .before .before .args .counts .now)) (length (c .before .before .before .before .args .block .now)) 45 3 59 (c .if1 .left)

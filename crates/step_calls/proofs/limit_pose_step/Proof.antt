@@ -1,12 +1,12 @@
--- `step_calls::steps::limit_pose_step` meets its contract. Assumes nothing.
+-- `step_calls::limit_pose_step` meets its contract. Assumes nothing.
 use mathlib.Core.Path.{_≡_, sym, ap, _∙_}
 use lib.ListN.{length}
 use Rattle.pose_step.specs.PoseStep as PoseStep
 use Rattle.step_calls.specs.Calls.{limitPoseStep}
 use Rattle.slices.proofs.Laws.{whole, too-short, answers, two-fit}
 use borrow.Author.Needs.{needs}
-use Rattle.step_calls.proofs.steps.limit_pose_step.Statement.{statement}
-use Rattle.step_calls.proofs.steps.limit_pose_step.Tie as tie
+use Rattle.step_calls.proofs.limit_pose_step.Statement.{statement}
+use Rattle.step_calls.proofs.limit_pose_step.Tie as tie
 
 fit : (c : tie.Else1) → (length (c .before .before .before .args .x .now) ≡ 5) × (length (c .before .before .before .args .out .now) ≡ 5)
 fit c = two-fit (length (c .before .before .before .args .x .now)) (length (c .before .before .before .args .out .now)) 5 5 (c .if1 .left)

@@ -1,15 +1,15 @@
--- `step_calls::systems::system_scaled_gradient_inf_norm` meets its contract. Assumes nothing.
+-- `system_calls::system_scaled_gradient_inf_norm` meets its contract. Assumes nothing.
 use mathlib.Core.Path.{_≡_, sym, ap, _∙_}
 use mathlib.Core.List.{[], _∷_}
 use lib.ListN.{length}
 use lib.Ieee.{Float}
 use Rattle.reduced_system.specs.Model as Model
 use Rattle.reduced_system.specs.declared.ReducedSystem.{ReducedSystem}
-use Rattle.step_calls.specs.Calls.{gradientInfNorm}
+use Rattle.system_calls.specs.Calls.{gradientInfNorm}
 use Rattle.slices.proofs.Laws.{too-short, answers, three-fit}
 use borrow.Author.Needs.{needs}
-use Rattle.step_calls.proofs.systems.system_scaled_gradient_inf_norm.Statement.{statement}
-use Rattle.step_calls.proofs.systems.system_scaled_gradient_inf_norm.Tie as tie
+use Rattle.system_calls.proofs.system_scaled_gradient_inf_norm.Statement.{statement}
+use Rattle.system_calls.proofs.system_scaled_gradient_inf_norm.Tie as tie
 
 fit : (c : tie.Else1) → (length (c .before .before .before .before .args .system .now) ≡ 45) × (length (c .before .before .before .before .args .counts .now) ≡ 3) × (length (c .before .before .before .before .args .out .now) ≡ 1)
 fit c = three-fit (length (c .before .before .before .before .args .system .now)) (length (c .before .before .before .before .args .counts .now)) (length (c .before .before .before .before .args .out .now)) 45 3 1 (c .if1 .left)

@@ -1,15 +1,15 @@
--- `step_calls::systems::system_finish_damping` meets its contract. Assumes nothing.
+-- `system_calls::system_finish_damping` meets its contract. Assumes nothing.
 use mathlib.Core.Path.{_≡_, ap, _∙_}
 use lib.ListN.{length}
 use Rattle.reduced_system.specs.Model as Model
 use Rattle.reduced_system.specs.declared.Added.{Added}
 use Rattle.reduced_system.specs.declared.ReducedSystem.{ReducedSystem}
-use Rattle.step_calls.specs.Calls.{finishDamping}
+use Rattle.system_calls.specs.Calls.{finishDamping}
 use Rattle.slices.proofs.Laws.{two-fit}
-use Rattle.step_calls.proofs.Laws.{too-short-system, changes}
+use Rattle.system_calls.proofs.Laws.{too-short-system, changes}
 use borrow.Author.Needs.{needs}
-use Rattle.step_calls.proofs.systems.system_finish_damping.Statement.{statement}
-use Rattle.step_calls.proofs.systems.system_finish_damping.Tie as tie
+use Rattle.system_calls.proofs.system_finish_damping.Statement.{statement}
+use Rattle.system_calls.proofs.system_finish_damping.Tie as tie
 
 fit : (c : tie.Else1) → (length (c .before .before .before .args .system .now) ≡ 45) × (length (c .before .before .before .args .counts .now) ≡ 3)
 fit c = two-fit (length (c .before .before .before .args .system .now)) (length (c .before .before .before .args .counts .now)) 45 3 (c .if1 .left)
