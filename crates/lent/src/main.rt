@@ -77,7 +77,7 @@ fn added(both: Both, local: LocalLinearization, damping: f64) -> Both {
 fn added_in_place(mut system: ReducedSystem, local: LocalLinearization, damping: f64) -> Added
     ensures { λ r. ⌜ r ≡ System.add system local damping ⌝ }
 {
-    let refusal = schur::add_to(&mut system, local, damping);
+    let refusal = in_place::add_to(&mut system, local, damping);
     Added { system, refusal }
 }
 

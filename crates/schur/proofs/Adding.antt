@@ -18,7 +18,7 @@ use Rattle.point_block.specs.Lone.{factor}
 use Rattle.point_block.specs.declared.PointBlockFactor.{PointBlockFactor}
 use Rattle.linearization.specs.declared.linearize.LocalLinearization.{LocalLinearization}
 use Rattle.reduced_system.specs.declared.ReducedSystem.{ReducedSystem}
-use Rattle.schur.specs.declared.block.Change.{Change}
+use Rattle.schur.specs.declared.Change.{Change}
 use Rattle.elimination.specs.Elimination.{reducedHessian, reducedGradient, pointReduction}
 use Rattle.gradient_norm.specs.GradientNorm.{pointGradientNorm}
 use Rattle.pose_model.specs.PoseModel.{sum5, diagonal5}

@@ -17,7 +17,7 @@ use Rattle.gradient_norm.specs.GradientNorm.{pointGradientNorm}
 use Rattle.pose_model.specs.PoseModel.{sum5, diagonal5}
 use Rattle.reduced_system.specs.declared.ReducedSystem.{ReducedSystem}
 use Rattle.reduced_system.specs.declared.Added.{Added}
-use Rattle.schur.specs.declared.block.Change.{Change}
+use Rattle.schur.specs.declared.Change.{Change}
 
 -- the most blocks that a system takes in
 abbrev pub maxBlocks : ℕ

@@ -54,10 +54,10 @@ use Rattle.reduced_system.proofs.ReducedSystem as T
 use Rattle.reduced_system.proofs.ReducedSystem.Laws as T′
 use Rattle.reduced_system.proofs.Added as D
 use Rattle.reduced_system.proofs.Added.Laws as D′
-use Rattle.schur.proofs.add_to as add-to
-use Rattle.schur.proofs.add_to.Symbol as add-to-def
-use Rattle.schur.proofs.add_to.Symbol.{name as #add-to}
-use Rattle.schur.proofs.add_to.Met as add-to-thm
+use Rattle.in_place.proofs.add_to as add-to
+use Rattle.in_place.proofs.add_to.Symbol as add-to-def
+use Rattle.in_place.proofs.add_to.Symbol.{name as #add-to}
+use Rattle.in_place.proofs.add_to.Met as add-to-thm
 use Rattle.lent.proofs.added_in_place.Key.{name as #added}
 use Rattle.lent.proofs.added_in_place as f
 use Rattle.lent.proofs.added_in_place.Statement as stated
@@ -191,4 +191,4 @@ added-in-place-spec 𝓤 H 𝓜 𝓖 𝓡 =
     entered 𝓤 H (tripleOf 𝓤 H (𝓖 .A) f.signature (f.spec 𝓤 H (𝓖 .A) (𝓜 .mem) (𝓡 .run)))
     (tables 𝓤 H 𝓜 𝓡 code.env .C) (tables 𝓤 H 𝓜 𝓡 code.env .Λ) #added code.function (code.unfolded 𝓤 H 𝓜 𝓡)
     (added-meets 𝓤 H (𝓖 .A) (givenOf 𝓤 H 𝓜 𝓖) (𝓜 .mem) (𝓡 .run) (tablesOf 𝓤 H 𝓜 (tables 𝓤 H 𝓜 𝓡 code.env))
-    (cited 𝓤 H (AddTo 𝓤 H (𝓖 .A) (𝓜 .mem) (𝓡 .run)) 𝓜 𝓡 code.env #add-to add-to-def.routine code.calls-schur·add-to (add-to-thm.met 𝓤 H 𝓜 𝓖 𝓡)))
+    (cited 𝓤 H (AddTo 𝓤 H (𝓖 .A) (𝓜 .mem) (𝓡 .run)) 𝓜 𝓡 code.env #add-to add-to-def.routine code.calls-in-place·add-to (add-to-thm.met 𝓤 H 𝓜 𝓖 𝓡)))

@@ -3,8 +3,7 @@
 
 // The system lent by its owner and changed there, as the Rust's `add(&mut self)` does.
 ghost use mathlib.Core.Path.{_≡_};
 ghost use Rattle.schur.specs.System as System;
-use crate::block;
 use linearization::LocalLinearization;
 use reduced_system::ReducedSystem;
 use refusal::Refusal;
@@ -14,7 +13,7 @@ pub fn add_to(system: &mut ReducedSystem, local: LocalLinearization, damping: f6
     ensures { λ r. ⌜ (r ≡ System.add (now (system .entry)) local damping .refusal) × (now (system .exit) ≡ System.add (now (system .entry)) local damping .system) ⌝ }
 {
     let was = *system;
-    let done = block::add(was, local, damping);
+    let done = schur::add(was, local, damping);
     *system = done.system;
     done.refusal
 }

@@ -1,9 +1,9 @@
--- `schur::block::not_eliminated` meets its contract. Assumes nothing.
+-- `schur::not_eliminated` meets its contract. Assumes nothing.
 use Rattle.schur.specs.System.{notEliminated}
 use mathlib.Core.Path.{refl}
 use borrow.Author.Needs.{needs}
-use Rattle.schur.proofs.block.not_eliminated.Statement.{statement}
-use Rattle.schur.proofs.block.not_eliminated.Tie as tie
+use Rattle.schur.proofs.not_eliminated.Statement.{statement}
+use Rattle.schur.proofs.not_eliminated.Tie as tie
 
 returns : tie.Need-returns
 unfolding notEliminated

@@ -1,8 +1,8 @@
--- `schur::block::elimination` meets its contract. Assumes nothing.
+-- `schur::elimination` meets its contract. Assumes nothing.
 use Rattle.schur.proofs.Adding.{eliminates, eliminates-not}
 use borrow.Author.Needs.{needs}
-use Rattle.schur.proofs.block.elimination.Statement.{statement}
-use Rattle.schur.proofs.block.elimination.Tie as tie
+use Rattle.schur.proofs.elimination.Statement.{statement}
+use Rattle.schur.proofs.elimination.Tie as tie
 
 returns : tie.Need-returns
 returns c =

@@ -1,9 +1,9 @@
--- `schur::block::taken_with` meets its contract. Assumes nothing.
+-- `schur::taken_with` meets its contract. Assumes nothing.
 use Rattle.schur.proofs.Adding.{takes-with}
 use native.Mathlib.Omega.{arith}
 use borrow.Author.Needs.{needs}
-use Rattle.schur.proofs.block.taken_with.Statement.{statement}
-use Rattle.schur.proofs.block.taken_with.Tie as tie
+use Rattle.schur.proofs.taken_with.Statement.{statement}
+use Rattle.schur.proofs.taken_with.Tie as tie
 
 returns : tie.Need-returns
 returns c =

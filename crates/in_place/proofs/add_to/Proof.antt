@@ -1,4 +1,4 @@
--- `schur::lent::add_to` meets its contract, by a walk of its MIR: it copies the system out of the borrow, calls `add` on the copy and stores the system that this answers. Of `add` only the contract is used.
+-- `in_place::add_to` meets its contract, by a walk of its MIR: it copies the system out of the borrow, calls `add` on the copy and stores the system that this answers. Of `add` only the contract is used.
 -- No field is named: what a struct owns is made anew from its relation wherever it is asked.
 -- Assumes nothing.
 use mathlib.Core.Path.{_≡_, refl, ap}
@@ -52,14 +52,14 @@ use Rattle.reduced_system.proofs.ReducedSystem as T
 use Rattle.reduced_system.proofs.ReducedSystem.Laws as T′
 use Rattle.reduced_system.proofs.Added as D
 use Rattle.reduced_system.proofs.Added.Laws as D′
-use Rattle.schur.proofs.block.add as add
-use Rattle.schur.proofs.block.add.Symbol as add-def
-use Rattle.schur.proofs.block.add.Symbol.{name as #add}
-use Rattle.schur.proofs.block.add.Met as add-thm
-use Rattle.schur.proofs.lent.add_to.Key.{name as #add-to}
-use Rattle.schur.proofs.lent.add_to as f
-use Rattle.schur.proofs.lent.add_to.Statement as stated
-use Rattle.schur.proofs.lent.add_to.Code as code
+use Rattle.schur.proofs.add as add
+use Rattle.schur.proofs.add.Symbol as add-def
+use Rattle.schur.proofs.add.Symbol.{name as #add}
+use Rattle.schur.proofs.add.Met as add-thm
+use Rattle.in_place.proofs.add_to.Key.{name as #add-to}
+use Rattle.in_place.proofs.add_to as f
+use Rattle.in_place.proofs.add_to.Statement as stated
+use Rattle.in_place.proofs.add_to.Code as code
 
 abbrev stayed : Stays (f.ended .signature .params) (f.ended .kept)
 stayed = (stay-ref (0 ∷ []) tt (plain (λ _. T.the-row)), (stay-none (λ _. L.the-row) yes, (stay-none (λ _. f64) yes, tt)))
@@ -165,4 +165,4 @@ add-to-spec 𝓤 H 𝓜 𝓖 𝓡 =
     entered 𝓤 H (tripleOf 𝓤 H (𝓖 .A) f.signature (f.spec 𝓤 H (𝓖 .A) (𝓜 .mem) (𝓡 .run)))
     (tables 𝓤 H 𝓜 𝓡 code.env .C) (tables 𝓤 H 𝓜 𝓡 code.env .Λ) #add-to code.function (code.unfolded 𝓤 H 𝓜 𝓡)
     (add-to-meets 𝓤 H (𝓖 .A) (givenOf 𝓤 H 𝓜 𝓖) (𝓜 .mem) (𝓡 .run) (tablesOf 𝓤 H 𝓜 (tables 𝓤 H 𝓜 𝓡 code.env))
-    (cited 𝓤 H (Add 𝓤 H (𝓖 .A) (𝓜 .mem) (𝓡 .run)) 𝓜 𝓡 code.env #add add-def.routine code.calls-schur·block·add (add-thm.met 𝓤 H 𝓜 𝓖 𝓡)))
+    (cited 𝓤 H (Add 𝓤 H (𝓖 .A) (𝓜 .mem) (𝓡 .run)) 𝓜 𝓡 code.env #add add-def.routine code.calls-schur·add (add-thm.met 𝓤 H 𝓜 𝓖 𝓡)))

@@ -1,9 +1,9 @@
--- `schur::block::taken` meets its contract. Assumes nothing.
+-- `schur::taken` meets its contract. Assumes nothing.
 use Rattle.schur.specs.System.{taken}
 use mathlib.Core.Path.{refl}
 use borrow.Author.Needs.{needs}
-use Rattle.schur.proofs.block.taken.Statement.{statement}
-use Rattle.schur.proofs.block.taken.Tie as tie
+use Rattle.schur.proofs.taken.Statement.{statement}
+use Rattle.schur.proofs.taken.Tie as tie
 
 returns : tie.Need-returns
 unfolding taken

@@ -1,9 +1,9 @@
--- `schur::block::raised` meets its contract. Assumes nothing.
+-- `schur::raised` meets its contract. Assumes nothing.
 use native.Mathlib.Numerals.{add-one}
 use native.Mathlib.Omega.{arith}
 use borrow.Author.Needs.{needs}
-use Rattle.schur.proofs.block.raised.Statement.{statement}
-use Rattle.schur.proofs.block.raised.Tie as tie
+use Rattle.schur.proofs.raised.Statement.{statement}
+use Rattle.schur.proofs.raised.Tie as tie
 
 returns : tie.Need-returns
 returns c = rw (c .if1 .taken) (add-one (c .before .args .count))

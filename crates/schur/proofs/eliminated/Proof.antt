@@ -1,8 +1,8 @@
--- `schur::block::eliminated` meets its contract. Assumes nothing.
+-- `schur::eliminated` meets its contract. Assumes nothing.
 use Rattle.schur.proofs.Adding.{eliminated-at-zero, eliminated-elsewhere}
 use borrow.Author.Needs.{needs}
-use Rattle.schur.proofs.block.eliminated.Statement.{statement}
-use Rattle.schur.proofs.block.eliminated.Tie as tie
+use Rattle.schur.proofs.eliminated.Statement.{statement}
+use Rattle.schur.proofs.eliminated.Tie as tie
 
 returns : tie.Need-returns
 returns c =

@@ -1,8 +1,8 @@
--- `schur::block::add` meets its contract. Assumes nothing.
+-- `schur::add` meets its contract. Assumes nothing.
 use Rattle.schur.proofs.Adding.{below, at-most, adds-no-damping, adds-no-weak, adds-no-more, adds-block}
 use borrow.Author.Needs.{needs}
-use Rattle.schur.proofs.block.add.Statement.{statement}
-use Rattle.schur.proofs.block.add.Tie as tie
+use Rattle.schur.proofs.add.Statement.{statement}
+use Rattle.schur.proofs.add.Tie as tie
 
 returns : tie.Need-returns
 returns c = adds-no-damping _ _ _ _ (c .before .before .good-damping .ensures) _ (c .before .if1 .taken) (c .of .ensures)
