@@ -12,8 +12,7 @@ use Rattle.solver.specs.declared.Row.{Row}
 use Rattle.solver.specs.declared.Lower.{Lower}
 use Rattle.solver.specs.Solver.{row0, row1, row2, row3, row4, lowerOf, goodRows, solution, solvePositiveDefinite}
 
-pub lower-is : (a : List Float) (r₀ r₁ r₂ r₃ r₄ : Row) → r₀ ≡ row0 a → r₁ ≡ row1 a (r₀ .entries) → r₂ ≡ row2 a (r₀ .entries) (r₁ .entries)
-    → r₃ ≡ row3 a (r₀ .entries) (r₁ .entries) (r₂ .entries) → r₄ ≡ row4 a (r₀ .entries) (r₁ .entries) (r₂ .entries) (r₃ .entries)
+pub lower-is : (a : List Float) (r₀ r₁ r₂ r₃ r₄ : Row) → r₀ ≡ row0 a → r₁ ≡ row1 a r₀ → r₂ ≡ row2 a r₀ r₁ → r₃ ≡ row3 a r₀ r₁ r₂ → r₄ ≡ row4 a r₀ r₁ r₂ r₃
     → record { r0 = r₀; r1 = r₁; r2 = r₂; r3 = r₃; r4 = r₄ } ≡ lowerOf a
 unfolding lowerOf
 lower-is a r₀ r₁ r₂ r₃ r₄ e₀ e₁ e₂ e₃ e₄ = rw (← e₀, ← e₁, ← e₂, ← e₃, ← e₄) refl

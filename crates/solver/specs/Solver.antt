@@ -15,55 +15,55 @@ use Rattle.solver.specs.declared.Solved.{Solved}
 unfoldable pub row0 : List Float → Row
 row0 a =
     let s₀ = a ! 0 ⊖ sum [] in
-    record { sums = s₀ ∷ zero ∷ zero ∷ zero ∷ zero ∷ []; entries = sqrt s₀ ∷ zero ∷ zero ∷ zero ∷ zero ∷ [] }
+    record { sums = s₀ ∷ zero ∷ zero ∷ zero ∷ zero ∷ []; e0 = sqrt s₀; e1 = zero; e2 = zero; e3 = zero; e4 = zero }
 
-unfoldable pub row1 : List Float → List Float → Row
-row1 a l₀ =
+unfoldable pub row1 : List Float → Row → Row
+row1 a r₀ =
     let s₀ = a ! 5 ⊖ sum [] in
-    let e₀ = s₀ ⊘ l₀ ! 0 in
+    let e₀ = s₀ ⊘ r₀ .e0 in
     let s₁ = a ! 6 ⊖ sum (e₀ ⊗ e₀ ∷ []) in
-    record { sums = s₀ ∷ s₁ ∷ zero ∷ zero ∷ zero ∷ []; entries = e₀ ∷ sqrt s₁ ∷ zero ∷ zero ∷ zero ∷ [] }
+    record { sums = s₀ ∷ s₁ ∷ zero ∷ zero ∷ zero ∷ []; e0 = e₀; e1 = sqrt s₁; e2 = zero; e3 = zero; e4 = zero }
 
-unfoldable pub row2 : List Float → List Float → List Float → Row
-row2 a l₀ l₁ =
+unfoldable pub row2 : List Float → Row → Row → Row
+row2 a r₀ r₁ =
     let s₀ = a ! 10 ⊖ sum [] in
-    let e₀ = s₀ ⊘ l₀ ! 0 in
-    let s₁ = a ! 11 ⊖ sum (e₀ ⊗ l₁ ! 0 ∷ []) in
-    let e₁ = s₁ ⊘ l₁ ! 1 in
+    let e₀ = s₀ ⊘ r₀ .e0 in
+    let s₁ = a ! 11 ⊖ sum (e₀ ⊗ r₁ .e0 ∷ []) in
+    let e₁ = s₁ ⊘ r₁ .e1 in
     let s₂ = a ! 12 ⊖ sum (e₀ ⊗ e₀ ∷ e₁ ⊗ e₁ ∷ []) in
-    record { sums = s₀ ∷ s₁ ∷ s₂ ∷ zero ∷ zero ∷ []; entries = e₀ ∷ e₁ ∷ sqrt s₂ ∷ zero ∷ zero ∷ [] }
+    record { sums = s₀ ∷ s₁ ∷ s₂ ∷ zero ∷ zero ∷ []; e0 = e₀; e1 = e₁; e2 = sqrt s₂; e3 = zero; e4 = zero }
 
-unfoldable pub row3 : List Float → List Float → List Float → List Float → Row
-row3 a l₀ l₁ l₂ =
+unfoldable pub row3 : List Float → Row → Row → Row → Row
+row3 a r₀ r₁ r₂ =
     let s₀ = a ! 15 ⊖ sum [] in
-    let e₀ = s₀ ⊘ l₀ ! 0 in
-    let s₁ = a ! 16 ⊖ sum (e₀ ⊗ l₁ ! 0 ∷ []) in
-    let e₁ = s₁ ⊘ l₁ ! 1 in
-    let s₂ = a ! 17 ⊖ sum (e₀ ⊗ l₂ ! 0 ∷ e₁ ⊗ l₂ ! 1 ∷ []) in
-    let e₂ = s₂ ⊘ l₂ ! 2 in
+    let e₀ = s₀ ⊘ r₀ .e0 in
+    let s₁ = a ! 16 ⊖ sum (e₀ ⊗ r₁ .e0 ∷ []) in
+    let e₁ = s₁ ⊘ r₁ .e1 in
+    let s₂ = a ! 17 ⊖ sum (e₀ ⊗ r₂ .e0 ∷ e₁ ⊗ r₂ .e1 ∷ []) in
+    let e₂ = s₂ ⊘ r₂ .e2 in
     let s₃ = a ! 18 ⊖ sum (e₀ ⊗ e₀ ∷ e₁ ⊗ e₁ ∷ e₂ ⊗ e₂ ∷ []) in
-    record { sums = s₀ ∷ s₁ ∷ s₂ ∷ s₃ ∷ zero ∷ []; entries = e₀ ∷ e₁ ∷ e₂ ∷ sqrt s₃ ∷ zero ∷ [] }
+    record { sums = s₀ ∷ s₁ ∷ s₂ ∷ s₃ ∷ zero ∷ []; e0 = e₀; e1 = e₁; e2 = e₂; e3 = sqrt s₃; e4 = zero }
 
-unfoldable pub row4 : List Float → List Float → List Float → List Float → List Float → Row
-row4 a l₀ l₁ l₂ l₃ =
+unfoldable pub row4 : List Float → Row → Row → Row → Row → Row
+row4 a r₀ r₁ r₂ r₃ =
     let s₀ = a ! 20 ⊖ sum [] in
-    let e₀ = s₀ ⊘ l₀ ! 0 in
-    let s₁ = a ! 21 ⊖ sum (e₀ ⊗ l₁ ! 0 ∷ []) in
-    let e₁ = s₁ ⊘ l₁ ! 1 in
-    let s₂ = a ! 22 ⊖ sum (e₀ ⊗ l₂ ! 0 ∷ e₁ ⊗ l₂ ! 1 ∷ []) in
-    let e₂ = s₂ ⊘ l₂ ! 2 in
-    let s₃ = a ! 23 ⊖ sum (e₀ ⊗ l₃ ! 0 ∷ e₁ ⊗ l₃ ! 1 ∷ e₂ ⊗ l₃ ! 2 ∷ []) in
-    let e₃ = s₃ ⊘ l₃ ! 3 in
+    let e₀ = s₀ ⊘ r₀ .e0 in
+    let s₁ = a ! 21 ⊖ sum (e₀ ⊗ r₁ .e0 ∷ []) in
+    let e₁ = s₁ ⊘ r₁ .e1 in
+    let s₂ = a ! 22 ⊖ sum (e₀ ⊗ r₂ .e0 ∷ e₁ ⊗ r₂ .e1 ∷ []) in
+    let e₂ = s₂ ⊘ r₂ .e2 in
+    let s₃ = a ! 23 ⊖ sum (e₀ ⊗ r₃ .e0 ∷ e₁ ⊗ r₃ .e1 ∷ e₂ ⊗ r₃ .e2 ∷ []) in
+    let e₃ = s₃ ⊘ r₃ .e3 in
     let s₄ = a ! 24 ⊖ sum (e₀ ⊗ e₀ ∷ e₁ ⊗ e₁ ∷ e₂ ⊗ e₂ ∷ e₃ ⊗ e₃ ∷ []) in
-    record { sums = s₀ ∷ s₁ ∷ s₂ ∷ s₃ ∷ s₄ ∷ []; entries = e₀ ∷ e₁ ∷ e₂ ∷ e₃ ∷ sqrt s₄ ∷ [] }
+    record { sums = s₀ ∷ s₁ ∷ s₂ ∷ s₃ ∷ s₄ ∷ []; e0 = e₀; e1 = e₁; e2 = e₂; e3 = e₃; e4 = sqrt s₄ }
 
 unfoldable pub lowerOf : List Float → Lower
 lowerOf a =
     let r₀ = row0 a in
-    let r₁ = row1 a (r₀ .entries) in
-    let r₂ = row2 a (r₀ .entries) (r₁ .entries) in
-    let r₃ = row3 a (r₀ .entries) (r₁ .entries) (r₂ .entries) in
-    let r₄ = row4 a (r₀ .entries) (r₁ .entries) (r₂ .entries) (r₃ .entries) in
+    let r₁ = row1 a r₀ in
+    let r₂ = row2 a r₀ r₁ in
+    let r₃ = row3 a r₀ r₁ r₂ in
+    let r₄ = row4 a r₀ r₁ r₂ r₃ in
     record { r0 = r₀; r1 = r₁; r2 = r₂; r3 = r₃; r4 = r₄ }
 
 -- every sum of a row is finite, and the pivot is not at or below 0
@@ -77,29 +77,27 @@ goodRows l =
     && goodSums (l .r4 .sums) (l .r4 .sums ! 4)
 
 -- L y = b
-unfoldable pub forward : List Float → List Float → List Float → List Float → List Float → List Float → List Float
-forward l₀ l₁ l₂ l₃ l₄ b =
-    let y₀ = b ! 0 ⊘ l₀ ! 0 in
-    let y₁ = (b ! 1 ⊖ l₁ ! 0 ⊗ y₀) ⊘ l₁ ! 1 in
-    let y₂ = (b ! 2 ⊖ l₂ ! 0 ⊗ y₀ ⊖ l₂ ! 1 ⊗ y₁) ⊘ l₂ ! 2 in
-    let y₃ = (b ! 3 ⊖ l₃ ! 0 ⊗ y₀ ⊖ l₃ ! 1 ⊗ y₁ ⊖ l₃ ! 2 ⊗ y₂) ⊘ l₃ ! 3 in
-    let y₄ = (b ! 4 ⊖ l₄ ! 0 ⊗ y₀ ⊖ l₄ ! 1 ⊗ y₁ ⊖ l₄ ! 2 ⊗ y₂ ⊖ l₄ ! 3 ⊗ y₃) ⊘ l₄ ! 4 in
+unfoldable pub forward : Lower → List Float → List Float
+forward l b =
+    let y₀ = b ! 0 ⊘ l .r0 .e0 in
+    let y₁ = (b ! 1 ⊖ l .r1 .e0 ⊗ y₀) ⊘ l .r1 .e1 in
+    let y₂ = (b ! 2 ⊖ l .r2 .e0 ⊗ y₀ ⊖ l .r2 .e1 ⊗ y₁) ⊘ l .r2 .e2 in
+    let y₃ = (b ! 3 ⊖ l .r3 .e0 ⊗ y₀ ⊖ l .r3 .e1 ⊗ y₁ ⊖ l .r3 .e2 ⊗ y₂) ⊘ l .r3 .e3 in
+    let y₄ = (b ! 4 ⊖ l .r4 .e0 ⊗ y₀ ⊖ l .r4 .e1 ⊗ y₁ ⊖ l .r4 .e2 ⊗ y₂ ⊖ l .r4 .e3 ⊗ y₃) ⊘ l .r4 .e4 in
     y₀ ∷ y₁ ∷ y₂ ∷ y₃ ∷ y₄ ∷ []
 
 -- Lᵀ x = y
-unfoldable pub backward : List Float → List Float → List Float → List Float → List Float → List Float → List Float
-backward l₀ l₁ l₂ l₃ l₄ y =
-    let x₄ = y ! 4 ⊘ l₄ ! 4 in
-    let x₃ = (y ! 3 ⊖ l₄ ! 3 ⊗ x₄) ⊘ l₃ ! 3 in
-    let x₂ = (y ! 2 ⊖ l₃ ! 2 ⊗ x₃ ⊖ l₄ ! 2 ⊗ x₄) ⊘ l₂ ! 2 in
-    let x₁ = (y ! 1 ⊖ l₂ ! 1 ⊗ x₂ ⊖ l₃ ! 1 ⊗ x₃ ⊖ l₄ ! 1 ⊗ x₄) ⊘ l₁ ! 1 in
-    let x₀ = (y ! 0 ⊖ l₁ ! 0 ⊗ x₁ ⊖ l₂ ! 0 ⊗ x₂ ⊖ l₃ ! 0 ⊗ x₃ ⊖ l₄ ! 0 ⊗ x₄) ⊘ l₀ ! 0 in
+unfoldable pub backward : Lower → List Float → List Float
+backward l y =
+    let x₄ = y ! 4 ⊘ l .r4 .e4 in
+    let x₃ = (y ! 3 ⊖ l .r4 .e3 ⊗ x₄) ⊘ l .r3 .e3 in
+    let x₂ = (y ! 2 ⊖ l .r3 .e2 ⊗ x₃ ⊖ l .r4 .e2 ⊗ x₄) ⊘ l .r2 .e2 in
+    let x₁ = (y ! 1 ⊖ l .r2 .e1 ⊗ x₂ ⊖ l .r3 .e1 ⊗ x₃ ⊖ l .r4 .e1 ⊗ x₄) ⊘ l .r1 .e1 in
+    let x₀ = (y ! 0 ⊖ l .r1 .e0 ⊗ x₁ ⊖ l .r2 .e0 ⊗ x₂ ⊖ l .r3 .e0 ⊗ x₃ ⊖ l .r4 .e0 ⊗ x₄) ⊘ l .r0 .e0 in
     x₀ ∷ x₁ ∷ x₂ ∷ x₃ ∷ x₄ ∷ []
 
 unfoldable pub solution : Lower → List Float → List Float
-solution l b =
-    backward (l .r0 .entries) (l .r1 .entries) (l .r2 .entries) (l .r3 .entries) (l .r4 .entries)
-    (forward (l .r0 .entries) (l .r1 .entries) (l .r2 .entries) (l .r3 .entries) (l .r4 .entries) b)
+solution l b = backward l (forward l b)
 
 -- Row 11 where any input, any sum or any result is not finite or a pivot ≤ 0. The Rust leaves at the first of these; what it would have worked out afterwards decides nothing.
 unfoldable pub solvePositiveDefinite : List Float → List Float → Solved

@@ -17,7 +17,11 @@ pub struct Solved {
 // diagonal is +0.
 struct Row {
     sums: [f64; 5],
-    entries: [f64; 5],
+    e0: f64,
+    e1: f64,
+    e2: f64,
+    e3: f64,
+    e4: f64,
 }
 
 // The lower triangle, by rows
@@ -53,27 +57,17 @@ fn lower_of(a: [f64; 25]) -> Lower
     ensures { λ r. ⌜ r ≡ Solver.lowerOf a ⌝ }
 {
     let r0 = row0(a);
-    let l0 = r0.entries;
-    let r1 = row1(a, l0);
-    let l1 = r1.entries;
-    let r2 = row2(a, l0, l1);
-    let l2 = r2.entries;
-    let r3 = row3(a, l0, l1, l2);
-    let l3 = r3.entries;
-    let r4 = row4(a, l0, l1, l2, l3);
+    let r1 = row1(a, r0);
+    let r2 = row2(a, r0, r1);
+    let r3 = row3(a, r0, r1, r2);
+    let r4 = row4(a, r0, r1, r2, r3);
     Lower { r0, r1, r2, r3, r4 }
 }
 
 fn solution(lower: Lower, b: [f64; 5]) -> [f64; 5]
     ensures { λ r. ⌜ r ≡ Solver.solution lower b ⌝ }
 {
-    let l0 = lower.r0.entries;
-    let l1 = lower.r1.entries;
-    let l2 = lower.r2.entries;
-    let l3 = lower.r3.entries;
-    let l4 = lower.r4.entries;
-    let y = forward(l0, l1, l2, l3, l4, b);
-    backward(l0, l1, l2, l3, l4, y)
+    backward(lower, forward(lower, b))
 }
 
 fn good_rows(lower: Lower) -> bool
@@ -114,111 +108,112 @@ fn row0(a: [f64; 25]) -> Row
     ensures { λ r. ⌜ r ≡ Solver.row0 a ⌝ }
 {
     let s0 = a[0] - -0.0;
-    let e0 = root::sqrt(s0);
     Row {
         sums: [s0, 0.0, 0.0, 0.0, 0.0],
-        entries: [e0, 0.0, 0.0, 0.0, 0.0],
+        e0: root::sqrt(s0),
+        e1: 0.0,
+        e2: 0.0,
+        e3: 0.0,
+        e4: 0.0,
     }
 }
 
-fn row1(a: [f64; 25], l0: [f64; 5]) -> Row
-    ensures { λ r. ⌜ r ≡ Solver.row1 a l0 ⌝ }
+fn row1(a: [f64; 25], r0: Row) -> Row
+    ensures { λ r. ⌜ r ≡ Solver.row1 a r0 ⌝ }
 {
     let s0 = a[5] - -0.0;
-    let e0 = s0 / l0[0];
+    let e0 = s0 / r0.e0;
     let s1 = a[6] - (-0.0 + e0 * e0);
-    let e1 = root::sqrt(s1);
     Row {
         sums: [s0, s1, 0.0, 0.0, 0.0],
-        entries: [e0, e1, 0.0, 0.0, 0.0],
+        e0,
+        e1: root::sqrt(s1),
+        e2: 0.0,
+        e3: 0.0,
+        e4: 0.0,
     }
 }
 
-fn row2(a: [f64; 25], l0: [f64; 5], l1: [f64; 5]) -> Row
-    ensures { λ r. ⌜ r ≡ Solver.row2 a l0 l1 ⌝ }
+fn row2(a: [f64; 25], r0: Row, r1: Row) -> Row
+    ensures { λ r. ⌜ r ≡ Solver.row2 a r0 r1 ⌝ }
 {
     let s0 = a[10] - -0.0;
-    let e0 = s0 / l0[0];
-    let s1 = a[11] - (-0.0 + e0 * l1[0]);
-    let e1 = s1 / l1[1];
+    let e0 = s0 / r0.e0;
+    let s1 = a[11] - (-0.0 + e0 * r1.e0);
+    let e1 = s1 / r1.e1;
     let s2 = a[12] - (-0.0 + e0 * e0 + e1 * e1);
-    let e2 = root::sqrt(s2);
     Row {
         sums: [s0, s1, s2, 0.0, 0.0],
-        entries: [e0, e1, e2, 0.0, 0.0],
+        e0,
+        e1,
+        e2: root::sqrt(s2),
+        e3: 0.0,
+        e4: 0.0,
     }
 }
 
-fn row3(a: [f64; 25], l0: [f64; 5], l1: [f64; 5], l2: [f64; 5]) -> Row
-    ensures { λ r. ⌜ r ≡ Solver.row3 a l0 l1 l2 ⌝ }
+fn row3(a: [f64; 25], r0: Row, r1: Row, r2: Row) -> Row
+    ensures { λ r. ⌜ r ≡ Solver.row3 a r0 r1 r2 ⌝ }
 {
     let s0 = a[15] - -0.0;
-    let e0 = s0 / l0[0];
-    let s1 = a[16] - (-0.0 + e0 * l1[0]);
-    let e1 = s1 / l1[1];
-    let s2 = a[17] - (-0.0 + e0 * l2[0] + e1 * l2[1]);
-    let e2 = s2 / l2[2];
+    let e0 = s0 / r0.e0;
+    let s1 = a[16] - (-0.0 + e0 * r1.e0);
+    let e1 = s1 / r1.e1;
+    let s2 = a[17] - (-0.0 + e0 * r2.e0 + e1 * r2.e1);
+    let e2 = s2 / r2.e2;
     let s3 = a[18] - (-0.0 + e0 * e0 + e1 * e1 + e2 * e2);
-    let e3 = root::sqrt(s3);
     Row {
         sums: [s0, s1, s2, s3, 0.0],
-        entries: [e0, e1, e2, e3, 0.0],
+        e0,
+        e1,
+        e2,
+        e3: root::sqrt(s3),
+        e4: 0.0,
     }
 }
 
-fn row4(a: [f64; 25], l0: [f64; 5], l1: [f64; 5], l2: [f64; 5], l3: [f64; 5]) -> Row
-    ensures { λ r. ⌜ r ≡ Solver.row4 a l0 l1 l2 l3 ⌝ }
+fn row4(a: [f64; 25], r0: Row, r1: Row, r2: Row, r3: Row) -> Row
+    ensures { λ r. ⌜ r ≡ Solver.row4 a r0 r1 r2 r3 ⌝ }
 {
     let s0 = a[20] - -0.0;
-    let e0 = s0 / l0[0];
-    let s1 = a[21] - (-0.0 + e0 * l1[0]);
-    let e1 = s1 / l1[1];
-    let s2 = a[22] - (-0.0 + e0 * l2[0] + e1 * l2[1]);
-    let e2 = s2 / l2[2];
-    let s3 = a[23] - (-0.0 + e0 * l3[0] + e1 * l3[1] + e2 * l3[2]);
-    let e3 = s3 / l3[3];
+    let e0 = s0 / r0.e0;
+    let s1 = a[21] - (-0.0 + e0 * r1.e0);
+    let e1 = s1 / r1.e1;
+    let s2 = a[22] - (-0.0 + e0 * r2.e0 + e1 * r2.e1);
+    let e2 = s2 / r2.e2;
+    let s3 = a[23] - (-0.0 + e0 * r3.e0 + e1 * r3.e1 + e2 * r3.e2);
+    let e3 = s3 / r3.e3;
     let s4 = a[24] - (-0.0 + e0 * e0 + e1 * e1 + e2 * e2 + e3 * e3);
-    let e4 = root::sqrt(s4);
     Row {
         sums: [s0, s1, s2, s3, s4],
-        entries: [e0, e1, e2, e3, e4],
+        e0,
+        e1,
+        e2,
+        e3,
+        e4: root::sqrt(s4),
     }
 }
 
 // L y = b
-fn forward(
-    l0: [f64; 5],
-    l1: [f64; 5],
-    l2: [f64; 5],
-    l3: [f64; 5],
-    l4: [f64; 5],
-    b: [f64; 5],
-) -> [f64; 5]
-    ensures { λ r. ⌜ r ≡ Solver.forward l0 l1 l2 l3 l4 b ⌝ }
+fn forward(l: Lower, b: [f64; 5]) -> [f64; 5]
+    ensures { λ r. ⌜ r ≡ Solver.forward l b ⌝ }
 {
-    let y0 = b[0] / l0[0];
-    let y1 = (b[1] - l1[0] * y0) / l1[1];
-    let y2 = (b[2] - l2[0] * y0 - l2[1] * y1) / l2[2];
-    let y3 = (b[3] - l3[0] * y0 - l3[1] * y1 - l3[2] * y2) / l3[3];
-    let y4 = (b[4] - l4[0] * y0 - l4[1] * y1 - l4[2] * y2 - l4[3] * y3) / l4[4];
+    let y0 = b[0] / l.r0.e0;
+    let y1 = (b[1] - l.r1.e0 * y0) / l.r1.e1;
+    let y2 = (b[2] - l.r2.e0 * y0 - l.r2.e1 * y1) / l.r2.e2;
+    let y3 = (b[3] - l.r3.e0 * y0 - l.r3.e1 * y1 - l.r3.e2 * y2) / l.r3.e3;
+    let y4 = (b[4] - l.r4.e0 * y0 - l.r4.e1 * y1 - l.r4.e2 * y2 - l.r4.e3 * y3) / l.r4.e4;
     [y0, y1, y2, y3, y4]
 }
 
 // Lᵀ x = y
-fn backward(
-    l0: [f64; 5],
-    l1: [f64; 5],
-    l2: [f64; 5],
-    l3: [f64; 5],
-    l4: [f64; 5],
-    y: [f64; 5],
-) -> [f64; 5]
-    ensures { λ r. ⌜ r ≡ Solver.backward l0 l1 l2 l3 l4 y ⌝ }
+fn backward(l: Lower, y: [f64; 5]) -> [f64; 5]
+    ensures { λ r. ⌜ r ≡ Solver.backward l y ⌝ }
 {
-    let x4 = y[4] / l4[4];
-    let x3 = (y[3] - l4[3] * x4) / l3[3];
-    let x2 = (y[2] - l3[2] * x3 - l4[2] * x4) / l2[2];
-    let x1 = (y[1] - l2[1] * x2 - l3[1] * x3 - l4[1] * x4) / l1[1];
-    let x0 = (y[0] - l1[0] * x1 - l2[0] * x2 - l3[0] * x3 - l4[0] * x4) / l0[0];
+    let x4 = y[4] / l.r4.e4;
+    let x3 = (y[3] - l.r4.e3 * x4) / l.r3.e3;
+    let x2 = (y[2] - l.r3.e2 * x3 - l.r4.e2 * x4) / l.r2.e2;
+    let x1 = (y[1] - l.r2.e1 * x2 - l.r3.e1 * x3 - l.r4.e1 * x4) / l.r1.e1;
+    let x0 = (y[0] - l.r1.e0 * x1 - l.r2.e0 * x2 - l.r3.e0 * x3 - l.r4.e0 * x4) / l.r0.e0;
     [x0, x1, x2, x3, x4]
 }

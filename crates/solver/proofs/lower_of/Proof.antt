@@ -6,8 +6,8 @@ use Rattle.solver.proofs.lower_of.Tie as tie
 
 returns : tie.Need-returns
 returns c =
-    let d = c .before .before .before .before in
-    lower-is _ _ _ _ _ _ (d .before .before .before .before .row0 .ensures) (d .before .before .row1 .ensures) (d .row2 .ensures) (c .before .before .row3 .ensures) (c .row4 .ensures)
+    let d = c .before .before in
+    lower-is _ _ _ _ _ _ (d .before .before .row0 .ensures) (d .before .row1 .ensures) (d .row2 .ensures) (c .before .row3 .ensures) (c .row4 .ensures)
 
 pub lower-of-spec : {M : Type 1} → statement M
 lower-of-spec =

@@ -16,6 +16,5 @@ row1-spec =
     (tie.spec
     (λ c. omega arith)
     (λ c. omega arith)
-    (λ c. omega arith)
     (λ c κs. search needs)
     returns)

@@ -17,8 +17,5 @@ row2-spec =
     (λ c. omega arith)
     (λ c. omega arith)
     (λ c. omega arith)
-    (λ c. omega arith)
-    (λ c. omega arith)
-    (λ c. omega arith)
     (λ c κs. search needs)
     returns)
