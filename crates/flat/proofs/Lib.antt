@@ -1,2 +1,2 @@
--- Laws of structs as flat numbers.
+-- A law of structs from flat numbers.
 pub mod Laws

@@ -1,7 +1,7 @@
--- The structs of the calls as flat lists of numbers, and back.
+-- The structs of the calls, from flat lists of numbers.
 use Prim.Native.Nat.{ℕ}
-use mathlib.Core.Bool.{Bool, not, cond}
-use mathlib.Core.List.{List, [], _∷_, _++_}
+use mathlib.Core.Bool.{not}
+use mathlib.Core.List.{List}
 use lib.Dec.{eqb}
 use lib.ListN.{getD}
 use lib.Ieee.{Float}
@@ -40,10 +40,6 @@ block x = record {
   refusal = none;
 }
 
-unfoldable pub blockNumbers : LocalLinearization → List Float
-blockNumbers b =
-    b .«pose_hessian» ++ b .«cross_hessian» ++ b .«point_hessian» ++ b .«pose_gradient» ++ b .«point_gradient» ++ (b .cost ∷ b .«squared_residual» ∷ [])
-
 -- from 45 numbers, and the weak count, the block count and the flag, which is false where it is 0
 unfoldable pub system : List Float → List ℕ → ReducedSystem
 system x counts = record {
@@ -60,13 +56,3 @@ system x counts = record {
   valid = not (eqb (getD counts 2 0) 0);
   «block_count» = getD counts 1 0;
 }
-
-unfoldable pub systemNumbers : ReducedSystem → List Float
-systemNumbers s =
-    s .hessian ++ s .gradient ++ (s .cost ∷ s .«squared_residual» ∷ []) ++ s .«full_pose_gradient» ++ s .«pose_diagonal» ++ (s .«point_model_reduction» ∷ s .«scaled_point_gradient_inf_norm» ∷ s .«minimum_point_rcond» ∷ [])
-
-abbrev pub flag : Bool → ℕ
-flag b = cond b 1 0
-
-unfoldable pub systemCounts : ReducedSystem → List ℕ
-systemCounts s = s .«weak_point_count» ∷ s .«block_count» ∷ flag (s .valid) ∷ []

@@ -1,2 +1,2 @@
--- Structs as flat numbers.
+-- Structs from flat numbers.
 pub mod Flat

@@ -21,7 +21,8 @@ use Rattle.point_block.specs.declared.LoneFactor.{LoneFactor}
 use Rattle.point_step.specs.declared.PointStep.{PointStep as PointStep·}
 use Rattle.text.specs.Text.{pasted}
 use Rattle.record.specs.Lists.{list}
-use Rattle.flat.specs.Flat.{camera, rig, correspondence, block, blockNumbers}
+use Rattle.flat.specs.Flat.{camera, rig, correspondence, block}
+use Rattle.flat_numbers.specs.FlatNumbers.{blockNumbers}
 use Rattle.slices.specs.Answers.{Answer, answer, long}
 
 -- residual and Jacobian

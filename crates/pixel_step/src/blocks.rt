@@ -28,7 +28,7 @@ pub extern "C" fn pixel_step_linearize_point(
         flat::correspondence(correspondence),
     );
     let refusal = b.refusal;
-    let values = flat::block_numbers(b);
+    let values = flat_numbers::block_numbers(b);
     slices::answer(refusal, &values, out)
 }
 

@@ -51,7 +51,7 @@ pub fn linearize_point(case: Case) -> Outcome {
         flat::correspondence(&x[29..37]),
     );
     let refusal = block.refusal;
-    let values = flat::block_numbers(block);
+    let values = flat_numbers::block_numbers(block);
     Outcome::of(case, refusal).with(&values)
 }
 
@@ -100,7 +100,7 @@ pub fn point_step(case: Case) -> Outcome {
 
 // Of a call that leaves this system
 fn left(case: Case, refusal: Refusal, next: ReducedSystem) -> Outcome {
-    let values = flat::system_numbers(next);
+    let values = flat_numbers::system_numbers(next);
     counted(Outcome::of(case, refusal).with(&values), next)
 }
 

@@ -9,7 +9,7 @@ use lib.ListN.{length, set}
 use lib.Ieee.{Float}
 use Rattle.refusal.specs.declared.Refusal.{Refusal}
 use Rattle.reduced_system.specs.declared.ReducedSystem.{ReducedSystem}
-use Rattle.flat.specs.Flat.{systemNumbers, systemCounts}
+use Rattle.flat_numbers.specs.FlatNumbers.{systemNumbers, systemCounts}
 use Rattle.slices.specs.Answers.{code, lengthsCode, stored}
 use Rattle.system_calls.specs.Calls.{change, Changed}
 

@@ -10,7 +10,8 @@ use Rattle.refusal.specs.declared.Refusal.{Refusal}
 use Rattle.schur.specs.System as System
 use Rattle.reduced_system.specs.Model as Model
 use Rattle.reduced_system.specs.declared.ReducedSystem.{ReducedSystem}
-use Rattle.flat.specs.Flat.{block, system, systemNumbers, systemCounts, flag}
+use Rattle.flat.specs.Flat.{block, system}
+use Rattle.flat_numbers.specs.FlatNumbers.{systemNumbers, systemCounts, flag}
 use Rattle.slices.specs.Answers.{code, lengthsCode, stored, Answer, answer, long}
 
 -- the number that comes back, and the lent system

@@ -3,7 +3,7 @@
 ghost use mathlib.Core.Path.{_≡_};
 ghost use lib.ListN.{length};
 ghost use Rattle.slices.specs.Answers as Answers;
-ghost use Rattle.flat.specs.Flat as Flat;
+ghost use Rattle.flat_numbers.specs.FlatNumbers as FlatNumbers;
 ghost use Rattle.system_calls.specs.Calls as Calls;
 use reduced_system::ReducedSystem;
 use refusal::Refusal;
@@ -98,13 +98,13 @@ pub fn system_predicted_reduction(
 fn answer(refusal: Refusal, next: ReducedSystem, system: &mut [f64], counts: &mut [u16]) -> u64
     requires { ⌜ (length (now system) ≡ 45) × (length (now counts) ≡ 3) ⌝ }
     ensures { λ r. ⌜ (r ≡ Answers.code refusal)
-        × (now (system .exit) ≡ Answers.stored refusal (Flat.systemNumbers next) (now (system .entry)))
-        × (now (counts .exit) ≡ Answers.stored refusal (Flat.systemCounts next) (now (counts .entry))) ⌝ }
+        × (now (system .exit) ≡ Answers.stored refusal (FlatNumbers.systemNumbers next) (now (system .entry)))
+        × (now (counts .exit) ≡ Answers.stored refusal (FlatNumbers.systemCounts next) (now (counts .entry))) ⌝ }
 {
     if !refusal.is_none() {
         return slices::code(refusal);
     }
-    let values = flat::system_numbers(next);
+    let values = flat_numbers::system_numbers(next);
     slices::store(&values, system);
     counts[0] = next.weak_point_count;
     counts[1] = next.block_count;
@@ -113,7 +113,7 @@ fn answer(refusal: Refusal, next: ReducedSystem, system: &mut [f64], counts: &mu
 }
 
 fn flag(b: bool) -> u16
-    ensures { λ r. ⌜ r ≡ Flat.flag b ⌝ }
+    ensures { λ r. ⌜ r ≡ FlatNumbers.flag b ⌝ }
 {
     if b { 1 } else { 0 }
 }

@@ -9,7 +9,7 @@ use Rattle.reduced_system.specs.Model as Model
 use Rattle.reduced_system.specs.declared.ReducedSystem.{ReducedSystem}
 use Rattle.slices.specs.Answers.{code}
 use Rattle.system_calls.specs.Calls.{isValid}
-use Rattle.flat.specs.Flat.{flag}
+use Rattle.flat_numbers.specs.FlatNumbers.{flag}
 use Rattle.slices.proofs.Laws.{too-short, answers-none, three-fit, one-set}
 use borrow.Author.Needs.{needs}
 use Rattle.system_calls.proofs.system_is_valid.Statement.{statement}

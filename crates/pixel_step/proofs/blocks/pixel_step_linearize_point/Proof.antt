@@ -5,7 +5,8 @@ use Rattle.linearization.specs.Linearize as Linearize
 use Rattle.views.specs.declared.Correspondence.{Correspondence}
 use Rattle.linearization.specs.declared.linearize.LocalLinearization.{LocalLinearization}
 use Rattle.correspondences.specs.declared.Rig.{Rig}
-use Rattle.flat.specs.Flat.{rig, blockNumbers}
+use Rattle.flat.specs.Flat.{rig}
+use Rattle.flat_numbers.specs.FlatNumbers.{blockNumbers}
 use Rattle.pixel_step.specs.Interface.{linearizePoint}
 use Rattle.slices.proofs.Laws.{too-short, answers, three-fit}
 use borrow.Author.Needs.{needs}

@@ -1,12 +1,12 @@
--- `flat::block_numbers` meets its contract. Assumes nothing.
+-- `flat_numbers::block_numbers` meets its contract. Assumes nothing.
 use mathlib.Core.Path.{_≡_, refl}
 use native.Mathlib.Omega.{arith}
 use borrow.Author.Needs.{needs}
 use lib.ListN.{length}
-use Rattle.flat.specs.Flat.{blockNumbers}
-use Rattle.flat.proofs.Laws.{put-none, put-next, put-last}
-use Rattle.flat.proofs.block_numbers.Statement.{statement}
-use Rattle.flat.proofs.block_numbers.Tie as tie
+use Rattle.flat_numbers.specs.FlatNumbers.{blockNumbers}
+use Rattle.flat_numbers.proofs.Laws.{put-none, put-next, put-last}
+use Rattle.flat_numbers.proofs.block_numbers.Statement.{statement}
+use Rattle.flat_numbers.proofs.block_numbers.Tie as tie
 
 -- an array in a struct has its length
 sizes : (c : tie.Start) → (length (c .args .b .«pose_hessian») ≡ 25) × (length (c .args .b .«cross_hessian») ≡ 15) × (length (c .args .b .«point_hessian») ≡ 9) × (length (c .args .b .«pose_gradient») ≡ 5) × (length (c .args .b .«point_gradient») ≡ 3)

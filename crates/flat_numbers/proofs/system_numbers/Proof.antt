@@ -1,12 +1,12 @@
--- `flat::system_numbers` meets its contract. Assumes nothing.
+-- `flat_numbers::system_numbers` meets its contract. Assumes nothing.
 use mathlib.Core.Path.{_≡_, refl}
 use native.Mathlib.Omega.{arith}
 use borrow.Author.Needs.{needs}
 use lib.ListN.{length}
-use Rattle.flat.specs.Flat.{systemNumbers}
-use Rattle.flat.proofs.Laws.{put-none, put-next, put-last}
-use Rattle.flat.proofs.system_numbers.Statement.{statement}
-use Rattle.flat.proofs.system_numbers.Tie as tie
+use Rattle.flat_numbers.specs.FlatNumbers.{systemNumbers}
+use Rattle.flat_numbers.proofs.Laws.{put-none, put-next, put-last}
+use Rattle.flat_numbers.proofs.system_numbers.Statement.{statement}
+use Rattle.flat_numbers.proofs.system_numbers.Tie as tie
 
 -- an array in a struct has its length
 sizes : (c : tie.Start) → (length (c .args .s .«hessian») ≡ 25) × (length (c .args .s .«gradient») ≡ 5) × (length (c .args .s .«full_pose_gradient») ≡ 5) × (length (c .args .s .«pose_diagonal») ≡ 5)

@@ -1,0 +1,2 @@
+-- Structs as flat numbers.
+pub mod FlatNumbers
