@@ -23,7 +23,7 @@ use Rattle.linearization.specs.declared.linearize.LocalLinearization.{Lo
 use Rattle.views.specs.declared.Pose.{Pose}
 use Rattle.views.specs.declared.Correspondence.{Correspondence}
 use Rattle.views.specs.declared.LinearizedViews.{LinearizedViews}
-use Rattle.views.specs.Loss.{norm, lossCost}
+use Rattle.loss.specs.Loss.{norm, lossCost}
 use Rattle.views.specs.Views.{goodDeviation, notSeen, weightedViews, linearizeViews}
 use Rattle.linearization.specs.Linearize.{notMade, sums, block, linearizePoint}
 

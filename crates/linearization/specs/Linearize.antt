@@ -14,7 +14,7 @@ use Rattle.views.specs.declared.Correspondence.{Correspondence}
 use Rattle.views.specs.declared.View1.{View1}
 use Rattle.views.specs.declared.View2.{View2}
 use Rattle.views.specs.declared.LinearizedViews.{LinearizedViews}
-use Rattle.views.specs.Loss.{norm, lossCost}
+use Rattle.loss.specs.Loss.{norm, lossCost}
 use Rattle.views.specs.Views.{linearizeViews}
 use Rattle.accumulate.specs.Accumulate.{poseHessian, crossHessian, pointHessian, poseGradient, pointGradient}
 

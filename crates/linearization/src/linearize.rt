@@ -62,11 +62,11 @@ fn block(views: LinearizedViews, inverse_deviation: f64) -> LocalLinearization
 {
     let residual1 = views.residual1;
     let residual2 = views.residual2;
-    let norm1 = views::norm(residual1);
-    let norm2 = views::norm(residual2);
+    let norm1 = loss::norm(residual1);
+    let norm2 = loss::norm(residual2);
     let cost = 0.0
-        + views::loss_cost(norm1 * inverse_deviation)
-        + views::loss_cost(norm2 * inverse_deviation);
+        + loss::loss_cost(norm1 * inverse_deviation)
+        + loss::loss_cost(norm2 * inverse_deviation);
     sums(views, cost, 0.0 + norm1 * norm1 + norm2 * norm2)
 }
 

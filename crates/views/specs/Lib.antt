@@ -1,3 +1,2 @@
--- Both views of a point, and the loss of a residual: schur.rs.
-pub mod Loss
+-- Both views of a point: schur.rs.
 pub mod Views

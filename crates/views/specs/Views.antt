@@ -18,7 +18,7 @@ use Rattle.views.specs.declared.Correspondence.{Correspondence}
 use Rattle.views.specs.declared.View1.{View1}
 use Rattle.views.specs.declared.View2.{View2}
 use Rattle.views.specs.declared.LinearizedViews.{LinearizedViews}
-use Rattle.views.specs.Loss.{rowWeight}
+use Rattle.loss.specs.Loss.{rowWeight}
 use Rattle.jacobians.specs.Jacobians.{poseMotionJacobian, poseJacobian, pointJacobian}
 
 -- row 4: inverse deviation not finite or ≤ 0

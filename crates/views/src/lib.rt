@@ -7,11 +7,6 @@
 ghost use mathlib.Core.Path.{_≡_};
 ghost use lib.ListN.{length};
 ghost use Rattle.views.specs.Views as Views;
-
-mod loss;
-
-pub use loss::loss_cost;
-pub use loss::norm;
 use projection::PinholeCamera;
 use projection::Projected;
 use refusal::Refusal;

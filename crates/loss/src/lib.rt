@@ -1,9 +1,9 @@
 // SPDX-FileCopyrightText: 2026 Pierre Moulon and OpenMVG Rust contributors
 // SPDX-License-Identifier: MIT OR Apache-2.0
 
-// The loss of a view's residual: plain squares.
+// The loss of a view's residual: plain squares. From kernel/two_view/schur.rs.
 ghost use mathlib.Core.Path.{_≡_};
-ghost use Rattle.views.specs.Loss as Loss;
+ghost use Rattle.loss.specs.Loss as Loss;
 
 // The length of a residual; the sum begins at −0.
 pub fn norm(residual: [f64; 2]) -> f64
@@ -14,7 +14,7 @@ pub fn norm(residual: [f64; 2]) -> f64
 
 // The weight of a view's rows: the inverse deviation times the root of the loss's weight. Plain
 // squares weigh every residual alike, by 1, so that its length is not worked out.
-pub(crate) fn row_weight(residual: [f64; 2], inverse_deviation: f64) -> f64
+pub fn row_weight(residual: [f64; 2], inverse_deviation: f64) -> f64
     ensures { λ r. ⌜ r ≡ Loss.rowWeight residual «inverse_deviation» ⌝ }
 {
     inverse_deviation * 1.0

@@ -1,0 +1,2 @@
+-- The loss of a residual: schur.rs.
+pub mod Loss
