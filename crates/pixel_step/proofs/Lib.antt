@@ -1,2 +1,2 @@
--- Laws of lent slices and of the answers stored in them.
+-- The law of a record's list.
 pub mod Laws

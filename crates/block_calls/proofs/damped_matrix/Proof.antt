@@ -1,15 +1,15 @@
--- `pixel_step::point_blocks::pixel_step_damped_matrix` meets its contract. Assumes nothing.
+-- `block_calls::damped_matrix` meets its contract. Assumes nothing.
 use mathlib.Core.Path.{_≡_, sym, ap, _∙_}
 use mathlib.Core.List.{List}
 use lib.ListN.{length}
 use lib.Ieee.{Float}
 use Rattle.point_damping.specs.Damping as Damping
 use Rattle.point_damping.specs.declared.DampedMatrix.{DampedMatrix}
-use Rattle.pixel_step.specs.Interface.{dampedMatrix}
+use Rattle.block_calls.specs.Calls.{dampedMatrix}
 use Rattle.slices.proofs.Laws.{whole, too-short, answers, two-fit}
 use borrow.Author.Needs.{needs}
-use Rattle.pixel_step.proofs.point_blocks.pixel_step_damped_matrix.Statement.{statement}
-use Rattle.pixel_step.proofs.point_blocks.pixel_step_damped_matrix.Tie as tie
+use Rattle.block_calls.proofs.damped_matrix.Statement.{statement}
+use Rattle.block_calls.proofs.damped_matrix.Tie as tie
 
 fit : (c : tie.Else1) → (length (c .before .before .before .args .matrix .now) ≡ 9) × (length (c .before .before .before .args .out .now) ≡ 9)
 fit c = two-fit (length (c .before .before .before .args .matrix .now)) (length (c .before .before .before .args .out .now)) 9 9 (c .if1 .left)
@@ -31,8 +31,8 @@ returns-2 c =
     let e = a .before .before .before .before .before .damped-matrix .ensures ∙ ap (λ (m : List Float). Damping.dampedMatrix m (start .args .damping)) (whole _ 9 _ (f .0) (a .before .before .before .before .before .before .vector9 .ensures)) in
     answers _ _ _ _ _ _ _ _ (a .before .before .before .before .before .before .before .if1 .left) (ap (λ (d : DampedMatrix). d .refusal) e) (ap (λ (d : DampedMatrix). d .matrix) e) (sized (a .before) ∙ sym (f .1)) (a .answer .ensures)
 
-pub pixel-step-damped-matrix-spec : {M : Type 1} → statement M
-pixel-step-damped-matrix-spec =
+pub damped-matrix-spec : {M : Type 1} → statement M
+damped-matrix-spec =
     tie.close
     (tie.spec
     (λ c κs. search needs)

@@ -1,4 +1,4 @@
--- `pixel_step::projections::pixel_step_pixel_projection` meets its contract. Assumes nothing.
+-- `block_calls::pixel_projection` meets its contract. Assumes nothing.
 use mathlib.Core.Path.{_≡_, sym, ap, _∙_}
 use mathlib.Core.List.{List}
 use lib.ListN.{length}
@@ -7,12 +7,12 @@ use Rattle.projection.specs.Projection as Projection
 use Rattle.projection.specs.declared.Projected.{Projected}
 use Rattle.projection.specs.declared.PinholeCamera.{PinholeCamera}
 use Rattle.flat.specs.Flat.{camera}
-use Rattle.pixel_step.specs.Interface.{pixelProjection, projectionNumbers}
+use Rattle.block_calls.specs.Calls.{pixelProjection, projectionNumbers}
 use Rattle.slices.proofs.Laws.{whole, too-short, answers, four-fit}
 use Rattle.flat.proofs.Laws.{whole-camera}
 use borrow.Author.Needs.{needs}
-use Rattle.pixel_step.proofs.projections.pixel_step_pixel_projection.Statement.{statement}
-use Rattle.pixel_step.proofs.projections.pixel_step_pixel_projection.Tie as tie
+use Rattle.block_calls.proofs.pixel_projection.Statement.{statement}
+use Rattle.block_calls.proofs.pixel_projection.Tie as tie
 
 fit : (c : tie.Else1) → (length (c .before .before .before .before .before .args .camera .now) ≡ 5) × (length (c .before .before .before .before .before .args .observation .now) ≡ 2) × (length (c .before .before .before .before .before .args .point .now) ≡ 3) × (length (c .before .before .before .before .before .args .out .now) ≡ 8)
 fit c = four-fit (length (c .before .before .before .before .before .args .camera .now)) (length (c .before .before .before .before .before .args .observation .now)) (length (c .before .before .before .before .before .args .point .now)) (length (c .before .before .before .before .before .args .out .now)) 5 2 3 8 (c .if1 .left)
@@ -41,8 +41,8 @@ returns-2 c =
     ∙ ap (λ (l : List Float). Projection.pixelProjection (camera (start .args .camera .now)) (start .args .observation .now) l) (whole (start .args .point .now) 3 _ (f .2) (three .vector3 .ensures)) in
     answers _ _ _ _ _ _ _ _ (test .if1 .left) (ap (λ (d : Projected). d .refusal) e) (c .before .before .before .before .before .projection-numbers .ensures ∙ ap (λ (p : Projected). projectionNumbers p) e) (sized (c .before .before .before) ∙ sym (f .3)) (c .before .before .answer .ensures)
 
-pub pixel-step-pixel-projection-spec : {M : Type 1} → statement M
-pixel-step-pixel-projection-spec =
+pub pixel-projection-spec : {M : Type 1} → statement M
+pixel-projection-spec =
     tie.close
     (tie.spec
     (λ c κs. search needs)

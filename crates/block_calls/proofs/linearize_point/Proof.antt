@@ -1,4 +1,4 @@
--- `pixel_step::blocks::pixel_step_linearize_point` meets its contract. Assumes nothing.
+-- `block_calls::linearize_point` meets its contract. Assumes nothing.
 use mathlib.Core.Path.{_≡_, sym, ap, _∙_}
 use lib.ListN.{length}
 use Rattle.linearization.specs.Linearize as Linearize
@@ -7,11 +7,11 @@ use Rattle.linearization.specs.declared.linearize.LocalLinearization.{LocalLine
 use Rattle.correspondences.specs.declared.Rig.{Rig}
 use Rattle.flat.specs.Flat.{rig}
 use Rattle.flat_numbers.specs.FlatNumbers.{blockNumbers}
-use Rattle.pixel_step.specs.Interface.{linearizePoint}
+use Rattle.block_calls.specs.Calls.{linearizePoint}
 use Rattle.slices.proofs.Laws.{too-short, answers, three-fit}
 use borrow.Author.Needs.{needs}
-use Rattle.pixel_step.proofs.blocks.pixel_step_linearize_point.Statement.{statement}
-use Rattle.pixel_step.proofs.blocks.pixel_step_linearize_point.Tie as tie
+use Rattle.block_calls.proofs.linearize_point.Statement.{statement}
+use Rattle.block_calls.proofs.linearize_point.Tie as tie
 
 fit : (c : tie.Else1) → (length (c .before .before .before .before .args .rig .now) ≡ 29) × (length (c .before .before .before .before .args .correspondence .now) ≡ 8) × (length (c .before .before .before .before .args .out .now) ≡ 59)
 fit c = three-fit (length (c .before .before .before .before .args .rig .now)) (length (c .before .before .before .before .args .correspondence .now)) (length (c .before .before .before .before .args .out .now)) 29 8 59 (c .if1 .left)
@@ -36,8 +36,8 @@ returns-2 c =
     ∙ ap (λ (x : Correspondence). Linearize.linearizePoint (rig (c .before .before .before .before .before .before .before .before .before .before .before .before .before .before .before .before .before .args .rig .now) .camera1) (rig (c .before .before .before .before .before .before .before .before .before .before .before .before .before .before .before .before .before .args .rig .now) .camera2) (rig (c .before .before .before .before .before .before .before .before .before .before .before .before .before .before .before .before .before .args .rig .now) .pose) x) (d .ensures) in
     answers _ _ _ _ _ _ _ _ (c .before .before .before .before .before .before .before .before .before .before .before .before .before .if1 .left) (ap (λ (b : LocalLinearization). b .refusal) e) (c .before .before .before .before .before .block-numbers .ensures ∙ ap blockNumbers e) (sized (c .before .before .before) ∙ sym (f .2)) (c .before .before .answer .ensures)
 
-pub pixel-step-linearize-point-spec : {M : Type 1} → statement M
-pixel-step-linearize-point-spec =
+pub linearize-point-spec : {M : Type 1} → statement M
+linearize-point-spec =
     tie.close
     (tie.spec
     (λ c κs. search needs)

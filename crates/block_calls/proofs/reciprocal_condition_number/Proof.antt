@@ -1,16 +1,14 @@
--- `pixel_step::point_blocks::pixel_step_reciprocal_condition_number` meets its contract. Assumes nothing.
+-- `block_calls::reciprocal_condition_number` meets its contract. Assumes nothing.
 use mathlib.Core.Path.{_≡_, sym, ap, _∙_}
 use mathlib.Core.List.{List, [], _∷_}
 use lib.ListN.{length}
 use lib.Ieee.{Float}
 use Rattle.point_block.specs.Condition as Condition
-use Rattle.pixel_step.specs.Interface.{reciprocalConditionNumber}
+use Rattle.block_calls.specs.Calls.{reciprocalConditionNumber}
 use Rattle.slices.proofs.Laws.{whole, too-short, answers, three-fit}
 use borrow.Author.Needs.{needs}
-use Rattle.pixel_step.proofs.point_blocks.pixel_step_reciprocal_condition_number.Statement.{
-  statement,
-}
-use Rattle.pixel_step.proofs.point_blocks.pixel_step_reciprocal_condition_number.Tie as tie
+use Rattle.block_calls.proofs.reciprocal_condition_number.Statement.{statement}
+use Rattle.block_calls.proofs.reciprocal_condition_number.Tie as tie
 
 fit : (c : tie.Else1) → (length (c .before .before .before .before .args .inverse .now) ≡ 6) × (length (c .before .before .before .before .args .matrix .now) ≡ 9) × (length (c .before .before .before .before .args .out .now) ≡ 1)
 fit c = three-fit (length (c .before .before .before .before .args .inverse .now)) (length (c .before .before .before .before .args .matrix .now)) (length (c .before .before .before .before .args .out .now)) 6 9 1 (c .if1 .left)
@@ -31,8 +29,8 @@ returns-2 c =
     ∙ ap (λ (m : List Float). Condition.reciprocalConditionNumber (start .args .inverse .now) m) (whole _ 9 _ (f .1) (a .before .before .before .before .before .vector9 .ensures)) in
     answers _ _ _ _ _ _ _ _ (a .before .before .before .before .before .before .before .before .if1 .left) (a .before .before .before .none2 .ensures) (ap (λ (x : Float). x ∷ []) e) (sym (f .2)) (a .answer .ensures)
 
-pub pixel-step-reciprocal-condition-number-spec : {M : Type 1} → statement M
-pixel-step-reciprocal-condition-number-spec =
+pub reciprocal-condition-number-spec : {M : Type 1} → statement M
+reciprocal-condition-number-spec =
     tie.close
     (tie.spec
     (λ c κs. search needs)

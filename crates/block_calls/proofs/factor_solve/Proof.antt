@@ -1,14 +1,14 @@
--- `pixel_step::point_blocks::pixel_step_factor_solve` meets its contract. Assumes nothing.
+-- `block_calls::factor_solve` meets its contract. Assumes nothing.
 use mathlib.Core.Path.{_≡_, sym, ap, _∙_}
 use mathlib.Core.List.{List}
 use lib.ListN.{length}
 use lib.Ieee.{Float}
 use Rattle.point_block.specs.Factor as Factor
-use Rattle.pixel_step.specs.Interface.{factorSolve}
+use Rattle.block_calls.specs.Calls.{factorSolve}
 use Rattle.slices.proofs.Laws.{whole, too-short, answers, three-fit}
 use borrow.Author.Needs.{needs}
-use Rattle.pixel_step.proofs.point_blocks.pixel_step_factor_solve.Statement.{statement}
-use Rattle.pixel_step.proofs.point_blocks.pixel_step_factor_solve.Tie as tie
+use Rattle.block_calls.proofs.factor_solve.Statement.{statement}
+use Rattle.block_calls.proofs.factor_solve.Tie as tie
 
 fit : (c : tie.Else1) → (length (c .before .before .before .before .args .inverse .now) ≡ 6) × (length (c .before .before .before .before .args .x .now) ≡ 3) × (length (c .before .before .before .before .args .out .now) ≡ 3)
 fit c = three-fit (length (c .before .before .before .before .args .inverse .now)) (length (c .before .before .before .before .args .x .now)) (length (c .before .before .before .before .args .out .now)) 6 3 3 (c .if1 .left)
@@ -33,8 +33,8 @@ returns-2 c =
     ∙ ap (λ (m : List Float). Factor.solve (start .args .inverse .now) m) (whole (start .args .x .now) 3 _ (f .1) (a .before .before .before .before .before .vector3 .ensures)) in
     answers _ _ _ _ _ _ _ _ (a .before .before .before .before .before .before .before .before .if1 .left) (a .before .before .before .none2 .ensures) e (sized (a .before) ∙ sym (f .2)) (a .answer .ensures)
 
-pub pixel-step-factor-solve-spec : {M : Type 1} → statement M
-pixel-step-factor-solve-spec =
+pub factor-solve-spec : {M : Type 1} → statement M
+factor-solve-spec =
     tie.close
     (tie.spec
     (λ c κs. search needs)

@@ -1,17 +1,15 @@
--- `pixel_step::solvers::pixel_step_solve_positive_definite` meets its contract. Assumes nothing.
+-- `block_calls::solve_positive_definite` meets its contract. Assumes nothing.
 use mathlib.Core.Path.{_≡_, sym, ap, _∙_}
 use mathlib.Core.List.{List}
 use lib.ListN.{length}
 use lib.Ieee.{Float}
 use Rattle.solver.specs.Solver as Solver
 use Rattle.solver.specs.declared.Solved.{Solved}
-use Rattle.pixel_step.specs.Interface.{solvePositiveDefinite}
+use Rattle.block_calls.specs.Calls.{solvePositiveDefinite}
 use Rattle.slices.proofs.Laws.{whole, too-short, answers, three-fit}
 use borrow.Author.Needs.{needs}
-use Rattle.pixel_step.proofs.solvers.pixel_step_solve_positive_definite.Statement.{
-  statement,
-}
-use Rattle.pixel_step.proofs.solvers.pixel_step_solve_positive_definite.Tie as tie
+use Rattle.block_calls.proofs.solve_positive_definite.Statement.{statement}
+use Rattle.block_calls.proofs.solve_positive_definite.Tie as tie
 
 fit : (c : tie.Else1) → (length (c .before .before .before .before .args .a .now) ≡ 25) × (length (c .before .before .before .before .args .b .now) ≡ 5) × (length (c .before .before .before .before .args .out .now) ≡ 5)
 fit c = three-fit (length (c .before .before .before .before .args .a .now)) (length (c .before .before .before .before .args .b .now)) (length (c .before .before .before .before .args .out .now)) 25 5 5 (c .if1 .left)
@@ -36,8 +34,8 @@ returns-2 c =
     ∙ ap (λ (m : List Float). Solver.solvePositiveDefinite (start .args .a .now) m) (whole _ 5 _ (f .1) (a .before .before .before .before .before .before .vector5 .ensures)) in
     answers _ _ _ _ _ _ _ _ (a .before .before .before .before .before .before .before .before .if1 .left) (ap (λ (d : Solved). d .refusal) e) (ap (λ (d : Solved). d .x) e) (sized (a .before) ∙ sym (f .2)) (a .answer .ensures)
 
-pub pixel-step-solve-positive-definite-spec : {M : Type 1} → statement M
-pixel-step-solve-positive-definite-spec =
+pub solve-positive-definite-spec : {M : Type 1} → statement M
+solve-positive-definite-spec =
     tie.close
     (tie.spec
     (λ c κs. search needs)

@@ -1,0 +1,2 @@
+-- What the calls on blocks answer.
+pub mod Calls
