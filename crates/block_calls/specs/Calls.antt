@@ -17,7 +17,7 @@ use Rattle.point_block.specs.declared.LoneFactor.{LoneFactor}
 use Rattle.point_step.specs.declared.PointStep.{PointStep as PointStep·}
 use Rattle.flat.specs.Flat.{camera, rig, correspondence, block}
 use Rattle.flat_numbers.specs.FlatNumbers.{blockNumbers}
-use Rattle.slices.specs.Answers.{Answer, answer, long}
+use Rattle.answers.specs.Answers.{Answer, answer, long}
 
 -- residual and Jacobian
 abbrev pub projectionNumbers : Projected → List Float

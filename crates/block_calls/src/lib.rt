@@ -2,7 +2,7 @@
 // one point and how the point moves. A matrix is given row by row, an inverse is 6 numbers, packed, and a block is 59.
 // `pixel_step` exports them.
 ghost use mathlib.Core.Path.{_≡_};
-ghost use Rattle.slices.specs.Answers as Answers;
+ghost use Rattle.answers.specs.Answers as Answers;
 ghost use Rattle.block_calls.specs.Calls as Calls;
 use point_block::LoneFactor;
 use point_block::PointBlockFactor;
@@ -16,7 +16,7 @@ pub fn pixel_projection(camera: &[f64], observation: &[f64], point: &[f64], out:
         (Calls.pixelProjection (now (camera .entry)) (now (observation .entry)) (now (point .entry)) (now (out .entry))) ⌝ }
 {
     if !((camera.len() == 5) & (observation.len() == 2) & (point.len() == 3) & (out.len() == 8)) {
-        return slices::lengths();
+        return answers::lengths();
     }
     let p = projection::pixel_projection(
         flat::camera(camera, 0),
@@ -25,7 +25,7 @@ pub fn pixel_projection(camera: &[f64], observation: &[f64], point: &[f64], out:
     );
     let refusal = p.refusal;
     let values = projection_numbers(p);
-    slices::answer(refusal, &values, out)
+    answers::answer(refusal, &values, out)
 }
 
 // out: 3
@@ -33,12 +33,12 @@ pub fn damping_diagonal(matrix: &[f64], out: &mut [f64]) -> u64
     ensures { λ r. ⌜ Answers.Answered r (now (out .exit)) (Calls.dampingDiagonal (now (matrix .entry)) (now (out .entry))) ⌝ }
 {
     if !((matrix.len() == 9) & (out.len() == 3)) {
-        return slices::lengths();
+        return answers::lengths();
     }
     let d = point_damping::damping_diagonal(slices::vector9(matrix, 0));
     let refusal = d.refusal;
     let values = d.values;
-    slices::answer(refusal, &values, out)
+    answers::answer(refusal, &values, out)
 }
 
 // out: 9
@@ -46,12 +46,12 @@ pub fn damped_matrix(matrix: &[f64], damping: f64, out: &mut [f64]) -> u64
     ensures { λ r. ⌜ Answers.Answered r (now (out .exit)) (Calls.dampedMatrix (now (matrix .entry)) damping (now (out .entry))) ⌝ }
 {
     if !((matrix.len() == 9) & (out.len() == 9)) {
-        return slices::lengths();
+        return answers::lengths();
     }
     let d = point_damping::damped_matrix(slices::vector9(matrix, 0), damping);
     let refusal = d.refusal;
     let values = d.matrix;
-    slices::answer(refusal, &values, out)
+    answers::answer(refusal, &values, out)
 }
 
 // matrix: damped already; out: 6
@@ -59,12 +59,12 @@ pub fn factor_damped(matrix: &[f64], out: &mut [f64]) -> u64
     ensures { λ r. ⌜ Answers.Answered r (now (out .exit)) (Calls.factorDamped (now (matrix .entry)) (now (out .entry))) ⌝ }
 {
     if !((matrix.len() == 9) & (out.len() == 6)) {
-        return slices::lengths();
+        return answers::lengths();
     }
     let f = PointBlockFactor::factor_damped(slices::vector9(matrix, 0));
     let refusal = f.refusal;
     let values = f.inverse;
-    slices::answer(refusal, &values, out)
+    answers::answer(refusal, &values, out)
 }
 
 // out: 6; damping is not tested
@@ -72,12 +72,12 @@ pub fn factor(matrix: &[f64], damping: f64, out: &mut [f64]) -> u64
     ensures { λ r. ⌜ Answers.Answered r (now (out .exit)) (Calls.factor (now (matrix .entry)) damping (now (out .entry))) ⌝ }
 {
     if !((matrix.len() == 9) & (out.len() == 6)) {
-        return slices::lengths();
+        return answers::lengths();
     }
     let f = PointBlockFactor::factor(slices::vector9(matrix, 0), damping);
     let refusal = f.refusal;
     let values = f.inverse;
-    slices::answer(refusal, &values, out)
+    answers::answer(refusal, &values, out)
 }
 
 // The lone factor. out: inverse 6, rcond
@@ -85,12 +85,12 @@ pub fn factor_new(matrix: &[f64], damping: f64, out: &mut [f64]) -> u64
     ensures { λ r. ⌜ Answers.Answered r (now (out .exit)) (Calls.loneFactor (now (matrix .entry)) damping (now (out .entry))) ⌝ }
 {
     if !((matrix.len() == 9) & (out.len() == 7)) {
-        return slices::lengths();
+        return answers::lengths();
     }
     let f = PointBlockFactor::new(slices::vector9(matrix, 0), damping);
     let refusal = f.refusal;
     let values = factor_numbers(f);
-    slices::answer(refusal, &values, out)
+    answers::answer(refusal, &values, out)
 }
 
 // inverse: 6; x: 3; out: 3
@@ -98,14 +98,14 @@ pub fn factor_solve(inverse: &[f64], x: &[f64], out: &mut [f64]) -> u64
     ensures { λ r. ⌜ Answers.Answered r (now (out .exit)) (Calls.factorSolve (now (inverse .entry)) (now (x .entry)) (now (out .entry))) ⌝ }
 {
     if !((inverse.len() == 6) & (x.len() == 3) & (out.len() == 3)) {
-        return slices::lengths();
+        return answers::lengths();
     }
     let factor = PointBlockFactor {
         inverse: slices::vector6(inverse, 0),
         refusal: Refusal::none(),
     };
     let values = factor.solve(slices::vector3(x, 0));
-    slices::answer(Refusal::none(), &values, out)
+    answers::answer(Refusal::none(), &values, out)
 }
 
 // inverse: 6; matrix: 9; out: 1
@@ -114,14 +114,14 @@ pub fn reciprocal_condition_number(inverse: &[f64], matrix: &[f64], out: &mut [f
         (Calls.reciprocalConditionNumber (now (inverse .entry)) (now (matrix .entry)) (now (out .entry))) ⌝ }
 {
     if !((inverse.len() == 6) & (matrix.len() == 9) & (out.len() == 1)) {
-        return slices::lengths();
+        return answers::lengths();
     }
     let factor = PointBlockFactor {
         inverse: slices::vector6(inverse, 0),
         refusal: Refusal::none(),
     };
     let values = [factor.reciprocal_condition_number(slices::vector9(matrix, 0))];
-    slices::answer(Refusal::none(), &values, out)
+    answers::answer(Refusal::none(), &values, out)
 }
 
 // a: 25 numbers, row by row; b: 5; out: 5
@@ -130,12 +130,12 @@ pub fn solve_positive_definite(a: &[f64], b: &[f64], out: &mut [f64]) -> u64
         (Calls.solvePositiveDefinite (now (a .entry)) (now (b .entry)) (now (out .entry))) ⌝ }
 {
     if !((a.len() == 25) & (b.len() == 5) & (out.len() == 5)) {
-        return slices::lengths();
+        return answers::lengths();
     }
     let s = solver::solve_positive_definite(slices::vector25(a, 0), slices::vector5(b, 0));
     let refusal = s.refusal;
     let values = s.x;
-    slices::answer(refusal, &values, out)
+    answers::answer(refusal, &values, out)
 }
 
 // rig: 29; correspondence: point, view 1, view 2, inverse deviation, 8; out: a block
@@ -144,7 +144,7 @@ pub fn linearize_point(rig: &[f64], correspondence: &[f64], out: &mut [f64]) -> 
         (Calls.linearizePoint (now (rig .entry)) (now (correspondence .entry)) (now (out .entry))) ⌝ }
 {
     if !((rig.len() == 29) & (correspondence.len() == 8) & (out.len() == 59)) {
-        return slices::lengths();
+        return answers::lengths();
     }
     let r = flat::rig(rig);
     let camera1 = r.camera1;
@@ -158,7 +158,7 @@ pub fn linearize_point(rig: &[f64], correspondence: &[f64], out: &mut [f64]) -> 
     );
     let refusal = b.refusal;
     let values = flat_numbers::block_numbers(b);
-    slices::answer(refusal, &values, out)
+    answers::answer(refusal, &values, out)
 }
 
 // pose_step: 5; out: step 3, damping norm
@@ -172,13 +172,13 @@ pub fn point_step_with_damping_norm(
         (Calls.pointStep (now (block .entry)) damping (now («pose_step» .entry)) (now (out .entry))) ⌝ }
 {
     if !((block.len() == 59) & (pose_step.len() == 5) & (out.len() == 4)) {
-        return slices::lengths();
+        return answers::lengths();
     }
     let b = flat::block(block);
     let p = point_step::point_step_with_damping_norm(b, damping, slices::vector5(pose_step, 0));
     let refusal = p.refusal;
     let values = point_step_numbers(p);
-    slices::answer(refusal, &values, out)
+    answers::answer(refusal, &values, out)
 }
 
 // Residual and Jacobian

@@ -1,5 +1,5 @@
 // The block of one point, and how the point moves. A block is 59 numbers.
-ghost use Rattle.slices.specs.Answers as Answers;
+ghost use Rattle.answers.specs.Answers as Answers;
 ghost use Rattle.block_calls.specs.Calls as Calls;
 
 // rig: 29; correspondence: point, view 1, view 2, inverse deviation, 8; out: a block

@@ -1,5 +1,5 @@
 // The 3 by 3 point block. A matrix is 9 numbers, row by row; an inverse is 6, packed.
-ghost use Rattle.slices.specs.Answers as Answers;
+ghost use Rattle.answers.specs.Answers as Answers;
 ghost use Rattle.block_calls.specs.Calls as Calls;
 
 // out: 3

@@ -1,5 +1,5 @@
 // The projection.
-ghost use Rattle.slices.specs.Answers as Answers;
+ghost use Rattle.answers.specs.Answers as Answers;
 ghost use Rattle.block_calls.specs.Calls as Calls;
 
 // camera: fx, fy, cx, cy, skew; observation: 2; point: 3; out: residual 2, Jacobian 6

@@ -1,5 +1,5 @@
 // The 5 by 5 solve.
-ghost use Rattle.slices.specs.Answers as Answers;
+ghost use Rattle.answers.specs.Answers as Answers;
 ghost use Rattle.block_calls.specs.Calls as Calls;
 
 // a: 25 numbers, row by row; b: 5; out: 5

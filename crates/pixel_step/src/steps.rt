@@ -1,6 +1,6 @@
 // One whole step of the two-view problem, and the limit of the pose step.
 ghost use Rattle.correspondences.specs.Problem as Problem;
-ghost use Rattle.slices.specs.Answers as Answers;
+ghost use Rattle.answers.specs.Answers as Answers;
 ghost use Rattle.flat.specs.Flat as Flat;
 ghost use Rattle.step_calls.specs.Calls as Calls;
 

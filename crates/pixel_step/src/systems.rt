@@ -1,5 +1,5 @@
 // The reduced system: 45 numbers, and beside them the weak count, the block count and the flag.
-ghost use Rattle.slices.specs.Answers as Answers;
+ghost use Rattle.answers.specs.Answers as Answers;
 ghost use Rattle.system_calls.specs.Calls as Calls;
 
 #[no_mangle]

@@ -2,7 +2,7 @@
 use mathlib.Core.Path.{_≡_, refl}
 use mathlib.Core.Bool.{Bool, true, false, not, cond}
 use borrow.Author.Tests.{not-true, not-false}
-use mathlib.Core.List.{List, [], _∷_}
+use mathlib.Core.List.{List}
 use lib.Dec.{T}
 use lib.Ieee.{Float, lt, ofBits}
 use lib.Ieee.Bits.{is-true}
@@ -14,7 +14,7 @@ use Rattle.number.proofs.Order.{nonneg-above, nonneg-recip}
 use Rattle.extrema.specs.Extrema.{larger}
 use Rattle.extrema.proofs.Laws.{largest-three}
 use Rattle.refusal.specs.Rows as Rows
-use Rattle.refusal.specs.Refused.{of, none, isRowNone, isNone}
+use Rattle.refusal.specs.Refused.{none, isRowNone, isNone}
 use Rattle.refusal.specs.declared.Refusal.{Refusal}
 use Rattle.cholesky.specs.Cholesky.{invert}
 use Rattle.cholesky.specs.declared.Inverse.{Inverse}

@@ -9,7 +9,6 @@ use Rattle.refusal.specs.declared.Refusal.{Refusal}
 use Rattle.assembly.specs.Assembly.{reduced}
 use Rattle.assembly.specs.declared.Reduced.{Reduced}
 use Rattle.assembly.proofs.Systems.{refused-system, given-system}
-use Rattle.correspondences.specs.Problem.{Problem}
 use Rattle.reduced_system.specs.declared.ReducedSystem.{ReducedSystem}
 use Rattle.record_form.specs.Form as Form
 use Rattle.lines.specs.Lines.{refusedLine}

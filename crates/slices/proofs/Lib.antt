@@ -1,2 +1,2 @@
--- Laws of numbers read from lent slices, and of answers stored in them.
+-- Laws of numbers read from lent slices, and copied to them.
 pub mod Laws

@@ -1,3 +1,2 @@
--- Numbers of lent slices, and answers stored in them.
+-- Numbers of lent slices.
 pub mod Slices
-pub mod Answers

@@ -1,47 +1,9 @@
-// Lent slices as small arrays, and an answer stored in one: what the calls of the C interface share. Each call has an
-// answer for every length: a number beyond the end of a slice is NaN.
+// Lent slices as small arrays, and values copied to one. Each call has an answer for every length: a number beyond the
+// end of a slice is NaN.
 ghost use mathlib.Core.Path.{_≡_};
 ghost use Prim.Native.Nat.{_≤_};
 ghost use lib.ListN.{length};
-ghost use Rattle.slices.specs.Answers as Answers;
 ghost use Rattle.slices.specs.Slices as Slices;
-use refusal::Refusal;
-
-// A refusal as one number: number + 256 · view + 65,536 · index. It is 0 where nothing was refused.
-pub fn code(refusal: Refusal) -> u64
-    ensures { λ r. ⌜ r ≡ Answers.code refusal ⌝ }
-{
-    refusal.number as u64 + 256 * (refusal.view as u64) + 65536 * (refusal.index as u64)
-}
-
-// Row 1: the lengths do not fit.
-pub fn lengths() -> u64
-    ensures { λ r. ⌜ r ≡ Answers.lengthsCode ⌝ }
-{
-    code(Refusal::of(refusal::LENGTHS))
-}
-
-// Stores the values where nothing was refused and `out` has room for just as many, and answers the refusal's code.
-pub fn answer(refusal: Refusal, values: &[f64], out: &mut [f64]) -> u64
-    ensures { λ r. ⌜ (r ≡ Answers.code refusal)
-        × (length (now (values .entry)) ≡ length (now (out .entry)) → now (out .exit) ≡ Answers.stored refusal (now (values .entry)) (now (out .entry)))
-        × ((length (now (values .entry)) ≡ length (now (out .entry)) → ⊥) → now (out .exit) ≡ now (out .entry)) ⌝ }
-{
-    if !refusal.is_none() {
-        return code(refusal);
-    }
-    store(values, out);
-    code(refusal)
-}
-
-// Stores the values where `out` has room for just as many; else `out` stays as it was.
-pub fn store(values: &[f64], out: &mut [f64])
-    ensures { λ _. ⌜ Answers.Stores (now (values .entry)) (now (out .entry)) (now (out .exit)) ⌝ }
-{
-    if values.len() == out.len() {
-        copy(values, 0, out);
-    }
-}
 
 // Copies the values to `out` from `start` on, where they fit; else `out` stays as it was.
 pub fn copy(values: &[f64], start: u32, out: &mut [f64])
@@ -59,7 +21,8 @@ pub fn copy(values: &[f64], start: u32, out: &mut [f64])
     }
 }
 
-// Fills `out` with the numbers of x from `start` on; beyond the end they are NaN.
+// Fills `out` with the numbers of x from `start` on; beyond the end they are NaN. Its widest caller has 25, so that no
+// index wraps.
 fn read(x: &[f64], start: u32, out: &mut [f64])
     requires { ⌜ length (now out) ≤ 25 ⌝ }
     ensures { λ _. ⌜ now (out .exit) ≡ Slices.part start (length (now (out .entry))) (now (x .entry)) ⌝ }

@@ -10,7 +10,7 @@ use Rattle.correspondences.specs.declared.Rig.{Rig}
 use Rattle.optimizer.specs.Step as Step
 use Rattle.optimizer.specs.declared.StepResult.{StepResult}
 use Rattle.flat.specs.Flat.{rig}
-use Rattle.slices.specs.Answers.{code, lengthsCode, stored, long}
+use Rattle.answers.specs.Answers.{code, lengthsCode, stored, long}
 use Rattle.step_calls.specs.Calls.{step, Stepped, stepNumbers, stepCount}
 
 -- row 1

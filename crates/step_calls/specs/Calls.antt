@@ -11,7 +11,7 @@ use Rattle.pose_step.specs.PoseStep as PoseStep
 use Rattle.optimizer.specs.Step as Step
 use Rattle.optimizer.specs.declared.StepResult.{StepResult}
 use Rattle.number.specs.Vectors.{_!_}
-use Rattle.slices.specs.Answers.{code, lengthsCode, stored, Answer, answer, long}
+use Rattle.answers.specs.Answers.{code, lengthsCode, stored, Answer, answer, long}
 
 -- what it gives, the room apart: twelve numbers and the weak count
 abbrev pub stepNumbers : StepResult → List Float

@@ -3,7 +3,7 @@
 ghost use mathlib.Core.Path.{_≡_};
 ghost use lib.ListN.{length};
 ghost use Rattle.correspondences.specs.Problem as Problem;
-ghost use Rattle.slices.specs.Answers as Answers;
+ghost use Rattle.answers.specs.Answers as Answers;
 ghost use Rattle.flat.specs.Flat as Flat;
 ghost use Rattle.step_calls.specs.Calls as Calls;
 use optimizer::StepResult;
@@ -26,7 +26,7 @@ pub fn step<'a>(
         (now (rig .entry)) (now (room .entry)) (now (out .entry)) (now (weak .entry))) ⌝ }
 {
     if !((rig.len() == 29) & (out.len() == 12) & (weak.len() == 1)) {
-        return slices::lengths();
+        return answers::lengths();
     }
     let r = flat::rig(rig);
     let done = optimizer::step(points, view1, view2, inverse_deviations, r, damping, room);
@@ -38,10 +38,10 @@ pub fn limit_pose_step(x: &[f64], out: &mut [f64]) -> u64
     ensures { λ r. ⌜ Answers.Answered r (now (out .exit)) (Calls.limitPoseStep (now (x .entry)) (now (out .entry))) ⌝ }
 {
     if !((x.len() == 5) & (out.len() == 5)) {
-        return slices::lengths();
+        return answers::lengths();
     }
     let values = pose_step::limit_pose_step(slices::vector5(x, 0));
-    slices::answer(Refusal::none(), &values, out)
+    answers::answer(Refusal::none(), &values, out)
 }
 
 // Stores numbers and weak count where nothing was refused, and answers the refusal's code.
@@ -53,12 +53,12 @@ fn answer(done: StepResult, out: &mut [f64], weak: &mut [u16]) -> u64
 {
     let refusal = done.refusal;
     if !refusal.is_none() {
-        return slices::code(refusal);
+        return answers::code(refusal);
     }
     let values = step_numbers(done);
-    slices::store(&values, out);
+    answers::store(&values, out);
     weak[0] = done.weak_point_count;
-    slices::code(refusal)
+    answers::code(refusal)
 }
 
 fn step_numbers(s: StepResult) -> [f64; 12]

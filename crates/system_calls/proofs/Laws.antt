@@ -10,7 +10,7 @@ use lib.Ieee.{Float}
 use Rattle.refusal.specs.declared.Refusal.{Refusal}
 use Rattle.reduced_system.specs.declared.ReducedSystem.{ReducedSystem}
 use Rattle.flat_numbers.specs.FlatNumbers.{systemNumbers, systemCounts}
-use Rattle.slices.specs.Answers.{code, lengthsCode, stored}
+use Rattle.answers.specs.Answers.{code, lengthsCode, stored}
 use Rattle.system_calls.specs.Calls.{change, Changed}
 
 -- row 1

@@ -12,7 +12,7 @@ use Rattle.reduced_system.specs.Model as Model
 use Rattle.reduced_system.specs.declared.ReducedSystem.{ReducedSystem}
 use Rattle.flat.specs.Flat.{block, system}
 use Rattle.flat_numbers.specs.FlatNumbers.{systemNumbers, systemCounts, flag}
-use Rattle.slices.specs.Answers.{code, lengthsCode, stored, Answer, answer, long}
+use Rattle.answers.specs.Answers.{code, lengthsCode, stored, Answer, answer, long}
 
 -- the number that comes back, and the lent system
 pub record Change : Type 0 where

@@ -2,7 +2,7 @@
 // `pixel_step` exports them.
 ghost use mathlib.Core.Path.{_≡_};
 ghost use lib.ListN.{length};
-ghost use Rattle.slices.specs.Answers as Answers;
+ghost use Rattle.answers.specs.Answers as Answers;
 ghost use Rattle.flat_numbers.specs.FlatNumbers as FlatNumbers;
 ghost use Rattle.system_calls.specs.Calls as Calls;
 use reduced_system::ReducedSystem;
@@ -13,7 +13,7 @@ pub fn system_new(system: &mut [f64], counts: &mut [u16]) -> u64
         (Calls.newSystem (now (system .entry)) (now (counts .entry))) ⌝ }
 {
     if !((system.len() == 45) & (counts.len() == 3)) {
-        return slices::lengths();
+        return answers::lengths();
     }
     answer(Refusal::none(), ReducedSystem::new(), system, counts)
 }
@@ -23,7 +23,7 @@ pub fn system_add(system: &mut [f64], counts: &mut [u16], block: &[f64], damping
         (Calls.add (now (system .entry)) (now (counts .entry)) (now (block .entry)) damping) ⌝ }
 {
     if !((system.len() == 45) & (counts.len() == 3) & (block.len() == 59)) {
-        return slices::lengths();
+        return answers::lengths();
     }
     let s = flat::system(system, counts);
     let added = schur::add(s, flat::block(block), damping);
@@ -37,7 +37,7 @@ pub fn system_finish_damping(system: &mut [f64], counts: &mut [u16], damping: f6
         (Calls.finishDamping (now (system .entry)) (now (counts .entry)) damping) ⌝ }
 {
     if !((system.len() == 45) & (counts.len() == 3)) {
-        return slices::lengths();
+        return answers::lengths();
     }
     let s = flat::system(system, counts);
     let finished = s.finish_damping(damping);
@@ -52,11 +52,11 @@ pub fn system_is_valid(system: &[f64], counts: &[u16], out: &mut [u16]) -> u64
         (Calls.isValid (now (system .entry)) (now (counts .entry)) (now (out .entry))) ⌝ }
 {
     if !((system.len() == 45) & (counts.len() == 3) & (out.len() == 1)) {
-        return slices::lengths();
+        return answers::lengths();
     }
     let s = flat::system(system, counts);
     out[0] = flag(s.is_valid());
-    slices::code(Refusal::none())
+    answers::code(Refusal::none())
 }
 
 // out: 1
@@ -65,11 +65,11 @@ pub fn system_scaled_gradient_inf_norm(system: &[f64], counts: &[u16], out: &mut
         (Calls.gradientInfNorm (now (system .entry)) (now (counts .entry)) (now (out .entry))) ⌝ }
 {
     if !((system.len() == 45) & (counts.len() == 3) & (out.len() == 1)) {
-        return slices::lengths();
+        return answers::lengths();
     }
     let s = flat::system(system, counts);
     let values = [s.scaled_gradient_inf_norm()];
-    slices::answer(Refusal::none(), &values, out)
+    answers::answer(Refusal::none(), &values, out)
 }
 
 // step: 5; out: 1
@@ -85,13 +85,13 @@ pub fn system_predicted_reduction(
         (Calls.predictedReduction (now (system .entry)) (now (counts .entry)) (now (step .entry)) damping «point_damping_norm» (now (out .entry))) ⌝ }
 {
     if !((system.len() == 45) & (counts.len() == 3) & (step.len() == 5) & (out.len() == 1)) {
-        return slices::lengths();
+        return answers::lengths();
     }
     let s = flat::system(system, counts);
     let p = s.predicted_reduction(slices::vector5(step, 0), damping, point_damping_norm);
     let refusal = p.refusal;
     let values = [p.reduction];
-    slices::answer(refusal, &values, out)
+    answers::answer(refusal, &values, out)
 }
 
 // Stores the system where nothing was refused, and answers the refusal's code.
@@ -102,14 +102,14 @@ fn answer(refusal: Refusal, next: ReducedSystem, system: &mut [f64], counts: &mu
         × (now (counts .exit) ≡ Answers.stored refusal (FlatNumbers.systemCounts next) (now (counts .entry))) ⌝ }
 {
     if !refusal.is_none() {
-        return slices::code(refusal);
+        return answers::code(refusal);
     }
     let values = flat_numbers::system_numbers(next);
-    slices::store(&values, system);
+    answers::store(&values, system);
     counts[0] = next.weak_point_count;
     counts[1] = next.block_count;
     counts[2] = flag(next.valid);
-    slices::code(refusal)
+    answers::code(refusal)
 }
 
 fn flag(b: bool) -> u16

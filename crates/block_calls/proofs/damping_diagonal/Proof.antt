@@ -6,7 +6,8 @@ use lib.Ieee.{Float}
 use Rattle.point_damping.specs.Damping as Damping
 use Rattle.point_damping.specs.declared.DampingDiagonal.{DampingDiagonal}
 use Rattle.block_calls.specs.Calls.{dampingDiagonal}
-use Rattle.slices.proofs.Laws.{whole, too-short, answers, two-fit}
+use Rattle.slices.proofs.Laws.{whole}
+use Rattle.answers.proofs.Laws.{too-short, answers, two-fit}
 use borrow.Author.Needs.{needs}
 use Rattle.block_calls.proofs.damping_diagonal.Statement.{statement}
 use Rattle.block_calls.proofs.damping_diagonal.Tie as tie

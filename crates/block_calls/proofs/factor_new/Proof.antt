@@ -6,7 +6,8 @@ use lib.Ieee.{Float}
 use Rattle.point_block.specs.Lone as Lone
 use Rattle.point_block.specs.declared.LoneFactor.{LoneFactor}
 use Rattle.block_calls.specs.Calls.{loneFactor, factorNumbers}
-use Rattle.slices.proofs.Laws.{whole, too-short, answers, two-fit}
+use Rattle.slices.proofs.Laws.{whole}
+use Rattle.answers.proofs.Laws.{too-short, answers, two-fit}
 use borrow.Author.Needs.{needs}
 use Rattle.block_calls.proofs.factor_new.Statement.{statement}
 use Rattle.block_calls.proofs.factor_new.Tie as tie

@@ -5,7 +5,8 @@ use lib.ListN.{length}
 use lib.Ieee.{Float}
 use Rattle.point_block.specs.Factor as Factor
 use Rattle.block_calls.specs.Calls.{factorSolve}
-use Rattle.slices.proofs.Laws.{whole, too-short, answers, three-fit}
+use Rattle.slices.proofs.Laws.{whole}
+use Rattle.answers.proofs.Laws.{too-short, answers, three-fit}
 use borrow.Author.Needs.{needs}
 use Rattle.block_calls.proofs.factor_solve.Statement.{statement}
 use Rattle.block_calls.proofs.factor_solve.Tie as tie

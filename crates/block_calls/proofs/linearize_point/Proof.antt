@@ -8,7 +8,7 @@ use Rattle.correspondences.specs.declared.Rig.{Rig}
 use Rattle.flat.specs.Flat.{rig}
 use Rattle.flat_numbers.specs.FlatNumbers.{blockNumbers}
 use Rattle.block_calls.specs.Calls.{linearizePoint}
-use Rattle.slices.proofs.Laws.{too-short, answers, three-fit}
+use Rattle.answers.proofs.Laws.{too-short, answers, three-fit}
 use borrow.Author.Needs.{needs}
 use Rattle.block_calls.proofs.linearize_point.Statement.{statement}
 use Rattle.block_calls.proofs.linearize_point.Tie as tie

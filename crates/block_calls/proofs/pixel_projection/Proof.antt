@@ -8,7 +8,8 @@ use Rattle.projection.specs.declared.Projected.{Projected}
 use Rattle.projection.specs.declared.PinholeCamera.{PinholeCamera}
 use Rattle.flat.specs.Flat.{camera}
 use Rattle.block_calls.specs.Calls.{pixelProjection, projectionNumbers}
-use Rattle.slices.proofs.Laws.{whole, too-short, answers, four-fit}
+use Rattle.slices.proofs.Laws.{whole}
+use Rattle.answers.proofs.Laws.{too-short, answers, four-fit}
 use Rattle.flat.proofs.Laws.{whole-camera}
 use borrow.Author.Needs.{needs}
 use Rattle.block_calls.proofs.pixel_projection.Statement.{statement}

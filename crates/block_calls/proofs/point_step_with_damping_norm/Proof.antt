@@ -8,7 +8,8 @@ use Rattle.linearization.specs.declared.linearize.LocalLinearization.{LocalLine
 use Rattle.point_step.specs.declared.PointStep as Stepped
 use Rattle.flat.specs.Flat.{block}
 use Rattle.block_calls.specs.Calls.{pointStep, pointStepNumbers}
-use Rattle.slices.proofs.Laws.{whole, too-short, answers, three-fit}
+use Rattle.slices.proofs.Laws.{whole}
+use Rattle.answers.proofs.Laws.{too-short, answers, three-fit}
 use borrow.Author.Needs.{needs}
 use Rattle.block_calls.proofs.point_step_with_damping_norm.Statement.{statement}
 use Rattle.block_calls.proofs.point_step_with_damping_norm.Tie as tie

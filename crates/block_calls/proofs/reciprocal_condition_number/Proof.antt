@@ -5,7 +5,8 @@ use lib.ListN.{length}
 use lib.Ieee.{Float}
 use Rattle.point_block.specs.Condition as Condition
 use Rattle.block_calls.specs.Calls.{reciprocalConditionNumber}
-use Rattle.slices.proofs.Laws.{whole, too-short, answers, three-fit}
+use Rattle.slices.proofs.Laws.{whole}
+use Rattle.answers.proofs.Laws.{too-short, answers, three-fit}
 use borrow.Author.Needs.{needs}
 use Rattle.block_calls.proofs.reciprocal_condition_number.Statement.{statement}
 use Rattle.block_calls.proofs.reciprocal_condition_number.Tie as tie

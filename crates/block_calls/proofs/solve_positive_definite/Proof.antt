@@ -6,7 +6,8 @@ use lib.Ieee.{Float}
 use Rattle.solver.specs.Solver as Solver
 use Rattle.solver.specs.declared.Solved.{Solved}
 use Rattle.block_calls.specs.Calls.{solvePositiveDefinite}
-use Rattle.slices.proofs.Laws.{whole, too-short, answers, three-fit}
+use Rattle.slices.proofs.Laws.{whole}
+use Rattle.answers.proofs.Laws.{too-short, answers, three-fit}
 use borrow.Author.Needs.{needs}
 use Rattle.block_calls.proofs.solve_positive_definite.Statement.{statement}
 use Rattle.block_calls.proofs.solve_positive_definite.Tie as tie

@@ -1,7 +1,7 @@
 -- `step_calls::answer` meets its contract. Assumes nothing.
 use mathlib.Core.Path.{_≡_, sym, _∙_}
 use lib.ListN.{length}
-use Rattle.slices.proofs.Laws.{stored-none, stored-some, one-set}
+use Rattle.answers.proofs.Laws.{stored-none, stored-some, one-set}
 use borrow.Author.Needs.{needs}
 use Rattle.step_calls.proofs.answer.Statement.{statement}
 use Rattle.step_calls.proofs.answer.Tie as tie

@@ -3,7 +3,8 @@ use mathlib.Core.Path.{_≡_, sym, ap, _∙_}
 use lib.ListN.{length}
 use Rattle.pose_step.specs.PoseStep as PoseStep
 use Rattle.step_calls.specs.Calls.{limitPoseStep}
-use Rattle.slices.proofs.Laws.{whole, too-short, answers, two-fit}
+use Rattle.slices.proofs.Laws.{whole}
+use Rattle.answers.proofs.Laws.{too-short, answers, two-fit}
 use borrow.Author.Needs.{needs}
 use Rattle.step_calls.proofs.limit_pose_step.Statement.{statement}
 use Rattle.step_calls.proofs.limit_pose_step.Tie as tie

@@ -3,7 +3,7 @@ use mathlib.Core.Path.{_≡_}
 use lib.ListN.{length}
 use Rattle.correspondences.specs.Problem.{problem}
 use Rattle.correspondences.specs.declared.Rig.{Rig}
-use Rattle.slices.proofs.Laws.{three-fit}
+use Rattle.answers.proofs.Laws.{three-fit}
 use Rattle.step_calls.proofs.Laws.{too-short-step, steps}
 use borrow.Author.Needs.{needs}
 use Rattle.step_calls.proofs.step.Statement.{statement}

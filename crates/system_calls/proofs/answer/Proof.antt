@@ -6,7 +6,7 @@ use native.Mathlib.Omega.{arith}
 use lib.ListN.{length, set}
 use lib.Seq.{lt-length-set}
 use Rattle.flat_numbers.specs.FlatNumbers.{systemCounts}
-use Rattle.slices.proofs.Laws.{stored-none, stored-some}
+use Rattle.answers.proofs.Laws.{stored-none, stored-some}
 use Rattle.system_calls.proofs.Laws.{three-set}
 use borrow.Author.Needs.{needs}
 use Rattle.system_calls.proofs.answer.Statement.{statement}

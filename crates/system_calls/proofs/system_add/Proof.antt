@@ -7,7 +7,7 @@ use Rattle.reduced_system.specs.declared.Added.{Added}
 use Rattle.reduced_system.specs.declared.ReducedSystem.{ReducedSystem}
 use Rattle.flat.specs.Flat.{system}
 use Rattle.system_calls.specs.Calls.{add}
-use Rattle.slices.proofs.Laws.{three-fit}
+use Rattle.answers.proofs.Laws.{three-fit}
 use Rattle.system_calls.proofs.Laws.{too-short-system, changes}
 use borrow.Author.Needs.{needs}
 use Rattle.system_calls.proofs.system_add.Statement.{statement}

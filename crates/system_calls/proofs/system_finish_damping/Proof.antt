@@ -5,7 +5,7 @@ use Rattle.reduced_system.specs.Model as Model
 use Rattle.reduced_system.specs.declared.Added.{Added}
 use Rattle.reduced_system.specs.declared.ReducedSystem.{ReducedSystem}
 use Rattle.system_calls.specs.Calls.{finishDamping}
-use Rattle.slices.proofs.Laws.{two-fit}
+use Rattle.answers.proofs.Laws.{two-fit}
 use Rattle.system_calls.proofs.Laws.{too-short-system, changes}
 use borrow.Author.Needs.{needs}
 use Rattle.system_calls.proofs.system_finish_damping.Statement.{statement}

@@ -2,7 +2,7 @@
 use mathlib.Core.Path.{_≡_}
 use lib.ListN.{length}
 use Rattle.system_calls.specs.Calls.{newSystem}
-use Rattle.slices.proofs.Laws.{two-fit}
+use Rattle.answers.proofs.Laws.{two-fit}
 use Rattle.system_calls.proofs.Laws.{too-short-system, changes}
 use borrow.Author.Needs.{needs}
 use Rattle.system_calls.proofs.system_new.Statement.{statement}

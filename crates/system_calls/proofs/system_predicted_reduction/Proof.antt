@@ -8,7 +8,8 @@ use Rattle.reduced_system.specs.declared.ReducedSystem.{ReducedSystem}
 use Rattle.reduced_system.specs.declared.Predicted.{Predicted}
 use Rattle.flat.specs.Flat.{system}
 use Rattle.system_calls.specs.Calls.{predictedReduction}
-use Rattle.slices.proofs.Laws.{whole, too-short, answers, four-fit}
+use Rattle.slices.proofs.Laws.{whole}
+use Rattle.answers.proofs.Laws.{too-short, answers, four-fit}
 use borrow.Author.Needs.{needs}
 use Rattle.system_calls.proofs.system_predicted_reduction.Statement.{statement}
 use Rattle.system_calls.proofs.system_predicted_reduction.Tie as tie

@@ -6,7 +6,7 @@ use lib.Ieee.{Float}
 use Rattle.reduced_system.specs.Model as Model
 use Rattle.reduced_system.specs.declared.ReducedSystem.{ReducedSystem}
 use Rattle.system_calls.specs.Calls.{gradientInfNorm}
-use Rattle.slices.proofs.Laws.{too-short, answers, three-fit}
+use Rattle.answers.proofs.Laws.{too-short, answers, three-fit}
 use borrow.Author.Needs.{needs}
 use Rattle.system_calls.proofs.system_scaled_gradient_inf_norm.Statement.{statement}
 use Rattle.system_calls.proofs.system_scaled_gradient_inf_norm.Tie as tie

@@ -1,9 +1,9 @@
--- `slices::store` meets its contract. Assumes nothing.
+-- `answers::store` meets its contract. Assumes nothing.
 use mathlib.Core.Path.{refl, _∙_}
 use Rattle.slices.proofs.Laws.{put-all}
 use borrow.Author.Needs.{needs}
-use Rattle.slices.proofs.store.Statement.{statement}
-use Rattle.slices.proofs.store.Tie as tie
+use Rattle.answers.proofs.store.Statement.{statement}
+use Rattle.answers.proofs.store.Tie as tie
 
 same-length : tie.Need-same-length
 same-length c = search needs

@@ -1,9 +1,9 @@
--- `slices::answer` meets its contract. Assumes nothing.
-use Rattle.slices.proofs.Laws.{stored-none, stored-some}
+-- `answers::answer` meets its contract. Assumes nothing.
+use Rattle.answers.proofs.Laws.{stored-none, stored-some}
 use mathlib.Core.Path.{refl}
 use borrow.Author.Needs.{needs}
-use Rattle.slices.proofs.answer.Statement.{statement}
-use Rattle.slices.proofs.answer.Tie as tie
+use Rattle.answers.proofs.answer.Statement.{statement}
+use Rattle.answers.proofs.answer.Tie as tie
 
 returns : tie.Need-returns
 returns c = (c .code .ensures, λ e. stored-none _ _ _ _ (c .before .before .is-none .ensures) (c .before .if1 .taken), λ n. refl)

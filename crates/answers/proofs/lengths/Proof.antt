@@ -1,9 +1,9 @@
--- `slices::lengths` meets its contract. Assumes nothing.
+-- `answers::lengths` meets its contract. Assumes nothing.
 use mathlib.Core.Path.{ap, _∙_}
-use Rattle.slices.specs.Answers.{code}
+use Rattle.answers.specs.Answers.{code}
 use borrow.Author.Needs.{needs}
-use Rattle.slices.proofs.lengths.Statement.{statement}
-use Rattle.slices.proofs.lengths.Tie as tie
+use Rattle.answers.proofs.lengths.Statement.{statement}
+use Rattle.answers.proofs.lengths.Tie as tie
 
 returns : tie.Need-returns
 returns c = c .code .ensures ∙ ap code (c .before .of .ensures)

@@ -1,0 +1,2 @@
+-- Laws of what a call answers.
+pub mod Laws
