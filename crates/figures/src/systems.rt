@@ -51,7 +51,7 @@ fn point(system: ReducedSystem, index: u16, x: f64, y: f64, off: f64) -> Reduced
     let block = seen(x, y, off);
     show::text(b"plate p");
     show::count(index as u64);
-    show::text(&[b' ', lines::letter(block, 0.0)]);
+    show::text(&[b' ', letters::letter(block, 0.0)]);
     show::end();
     let added = schur::add(system, block, 0.0);
     added.system

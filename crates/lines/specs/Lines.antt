@@ -3,12 +3,8 @@ use Prim.Native.Nat.{ℕ}
 use mathlib.Core.Bool.{Bool, _&&_, cond}
 use mathlib.Core.List.{List, [], _∷_, _++_}
 use lib.Dec.{eqb}
-use lib.Ieee.{Float, binary64, toBits, eq, le}
-use Rattle.number.specs.Binary64.{zero as zero·, epsilon192}
-use Rattle.refusal.specs.Refused.{isNone}
+use lib.Ieee.{Float, binary64, toBits}
 use Rattle.refusal.specs.declared.Refusal.{Refusal}
-use Rattle.point_block.specs.Lone.{loneFactor}
-use Rattle.linearization.specs.declared.linearize.LocalLinearization.{LocalLinearization}
 use Rattle.reduced_system.specs.Model.{isValid}
 use Rattle.reduced_system.specs.declared.ReducedSystem.{ReducedSystem}
 use Rattle.hex.specs.Hex.{digits}
@@ -21,12 +17,6 @@ bitsThen x after = space ∷ [] ++ digits (toBits binary64 x) ++ after
 -- `run`, n, damping bits
 unfoldable pub runLine : ℕ → Float → List ℕ
 runLine n damping = 114 ∷ 117 ∷ 110 ∷ space ∷ [] ++ decimal n ++ bitsThen damping (lineFeed ∷ [])
-
--- `n` does not factor; at damping zero `w` factors with rcond ≤ 192ε, `g` factors above it; at other dampings `f` factors
-unfoldable pub letter : LocalLinearization → Float → ℕ
-letter b damping =
-    let f = loneFactor (b .«point_hessian») damping in
-    cond (isNone (f .refusal)) (cond (eq damping zero·) (cond (le (f .rcond) epsilon192) 119 103) 102) 110
 
 -- `p`, index, letter
 unfoldable pub pointLine : ℕ → ℕ → List ℕ

@@ -2,8 +2,6 @@
 ghost use mathlib.Core.Path.{_≡_};
 ghost use Rattle.lines.specs.Lines as Lines;
 ghost use Rattle.text.specs.Text as Text;
-use linearization::LocalLinearization;
-use point_block::PointBlockFactor;
 use reduced_system::ReducedSystem;
 use refusal::Refusal;
 
@@ -30,25 +28,6 @@ pub fn put_point(out: &mut [u8], at: usize, i: u32, letter: u8) -> usize
 {
     let index_at = text::put(out, at, b"p ");
     text::put_decimal_then(out, index_at, i, &[b' ', letter, b'\n'])
-}
-
-// `n` where the block does not factor; at damping zero `w` for an rcond of at most 192ε, else `g`; at other dampings `f`
-pub fn letter(local: LocalLinearization, damping: f64) -> u8
-    ensures { λ r. ⌜ r ≡ Lines.letter local damping ⌝ }
-{
-    let matrix = local.point_hessian;
-    let factor = PointBlockFactor::new(matrix, damping);
-    let refusal = factor.refusal;
-    if !refusal.is_none() {
-        return b'n';
-    }
-    if damping == 0.0 {
-        if factor.rcond <= number::EPSILON192 {
-            return b'w';
-        }
-        return b'g';
-    }
-    b'f'
 }
 
 // `sum`, cost and squared residual bits, weak count, validity, verdict

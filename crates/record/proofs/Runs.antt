@@ -21,7 +21,8 @@ use Rattle.correspondences.specs.declared.Rig.{Rig}
 use Rattle.correspondences.specs.Problem.{Problem, problem, correspondenceAt}
 use Rattle.fields.specs.Fields.{pointFields}
 use Rattle.run.specs.Run.{numberAt, rig, damping, column, run, correspondenceOf}
-use Rattle.lines.specs.Lines.{letter, pointLine}
+use Rattle.letters.specs.Letters.{letter}
+use Rattle.lines.specs.Lines.{pointLine}
 use Rattle.record.specs.Lists.{pointLines}
 use Rattle.text.specs.Text.{Put}
 use Rattle.text.proofs.Puts.{put-none, put-same, put-put}

@@ -18,7 +18,8 @@ use Rattle.fields.specs.Fields.{pointFields}
 use Rattle.record_form.specs.Form as Form
 use Rattle.run.specs.Run.{rig, run, damping}
 use Rattle.text.specs.Text.{pasted}
-use Rattle.lines.specs.Lines.{runLine, letter, pointLine, sumLine, refusedLine}
+use Rattle.letters.specs.Letters.{letter}
+use Rattle.lines.specs.Lines.{runLine, pointLine, sumLine, refusedLine}
 use Rattle.record.specs.declared.list.Written.{Written}
 
 -- a record of the right form, with its rig and its damping

@@ -104,7 +104,7 @@ fn put_points(out: &mut [u8], start: usize, record: &[u8], rig: Rig, damping: f6
 {
     let mut at = start;
     for i in 0..fields::point_fields(record) {
-        let letter = lines::letter(points::block_at(record, rig, i), damping);
+        let letter = letters::letter(points::block_at(record, rig, i), damping);
         at = lines::put_point(out, at, i as u32, letter);
     }
     at

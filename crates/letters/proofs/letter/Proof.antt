@@ -1,10 +1,10 @@
--- `lines::letter` meets its contract. Assumes nothing.
-use Rattle.lines.specs.Lines.{letter}
+-- `letters::letter` meets its contract. Assumes nothing.
+use Rattle.letters.specs.Letters.{letter}
 use borrow.Author.Tests.{not-true, not-false}
 use mathlib.Core.Path.{refl}
 use borrow.Author.Needs.{needs}
-use Rattle.lines.proofs.letter.Statement.{statement}
-use Rattle.lines.proofs.letter.Tie as tie
+use Rattle.letters.proofs.letter.Statement.{statement}
+use Rattle.letters.proofs.letter.Tie as tie
 
 returns : tie.Need-returns
 unfolding letter
