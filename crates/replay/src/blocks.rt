@@ -2,20 +2,18 @@
 use crate::calls::Call;
 use crate::cases::Case;
 use crate::files;
-use crate::files::ROOM;
 use crate::outcomes::Outcome;
 use point_block::PointBlockFactor;
 use refusal::Refusal;
 
-pub fn replay(text: &mut [u8; ROOM]) {
-    files::replay(text, b"damping_diagonal.txt", 9, Call::DampingDiagonal);
-    files::replay(text, b"damped_matrix.txt", 10, Call::DampedMatrix);
-    files::replay(text, b"factor_damped.txt", 9, Call::FactorDamped);
-    files::replay(text, b"factor.txt", 10, Call::Factor);
-    files::replay(text, b"factor_new.txt", 10, Call::FactorNew);
-    files::replay(text, b"factor_solve.txt", 9, Call::FactorSolve);
+pub fn replay() {
+    files::replay(b"damping_diagonal.txt", 9, Call::DampingDiagonal);
+    files::replay(b"damped_matrix.txt", 10, Call::DampedMatrix);
+    files::replay(b"factor_damped.txt", 9, Call::FactorDamped);
+    files::replay(b"factor.txt", 10, Call::Factor);
+    files::replay(b"factor_new.txt", 10, Call::FactorNew);
+    files::replay(b"factor_solve.txt", 9, Call::FactorSolve);
     files::replay(
-        text,
         b"reciprocal_condition_number.txt",
         15,
         Call::ReciprocalConditionNumber,

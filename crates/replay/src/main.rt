@@ -13,11 +13,10 @@ mod systems;
 mod tally;
 
 fn main() {
-    let mut text = [0u8; files::ROOM];
-    numbers::replay(&mut text);
-    projections::replay(&mut text);
-    blocks::replay(&mut text);
-    solvers::replay(&mut text);
-    systems::replay(&mut text);
-    steps::replay(&mut text);
+    numbers::replay();
+    projections::replay();
+    blocks::replay();
+    solvers::replay();
+    systems::replay();
+    steps::replay();
 }

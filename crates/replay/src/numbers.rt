@@ -2,19 +2,18 @@
 use crate::calls::Call;
 use crate::cases::Case;
 use crate::files;
-use crate::files::ROOM;
 use crate::outcomes::Outcome;
 use refusal::Refusal;
 
-pub fn replay(text: &mut [u8; ROOM]) {
-    files::replay(text, b"sqrt.txt", 1, Call::Sqrt);
-    files::replay(text, b"abs.txt", 1, Call::Abs);
-    files::replay(text, b"recip.txt", 1, Call::Recip);
-    files::replay(text, b"is_finite.txt", 1, Call::IsFinite);
-    files::replay(text, b"max.txt", 2, Call::Max);
-    files::replay(text, b"min.txt", 2, Call::Min);
-    files::replay(text, b"to_bits.txt", 1, Call::ToBits);
-    files::replay(text, b"from_bits.txt", 1, Call::FromBits);
+pub fn replay() {
+    files::replay(b"sqrt.txt", 1, Call::Sqrt);
+    files::replay(b"abs.txt", 1, Call::Abs);
+    files::replay(b"recip.txt", 1, Call::Recip);
+    files::replay(b"is_finite.txt", 1, Call::IsFinite);
+    files::replay(b"max.txt", 2, Call::Max);
+    files::replay(b"min.txt", 2, Call::Min);
+    files::replay(b"to_bits.txt", 1, Call::ToBits);
+    files::replay(b"from_bits.txt", 1, Call::FromBits);
 }
 
 pub fn sqrt(case: Case) -> Outcome {

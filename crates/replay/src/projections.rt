@@ -2,12 +2,11 @@
 use crate::calls::Call;
 use crate::cases::Case;
 use crate::files;
-use crate::files::ROOM;
 use crate::outcomes::Outcome;
 use projection::Projected;
 
-pub fn replay(text: &mut [u8; ROOM]) {
-    files::replay(text, b"pixel_projection.txt", 10, Call::PixelProjection);
+pub fn replay() {
+    files::replay(b"pixel_projection.txt", 10, Call::PixelProjection);
 }
 
 pub fn pixel_projection(case: Case) -> Outcome {

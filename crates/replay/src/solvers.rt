@@ -2,12 +2,10 @@
 use crate::calls::Call;
 use crate::cases::Case;
 use crate::files;
-use crate::files::ROOM;
 use crate::outcomes::Outcome;
 
-pub fn replay(text: &mut [u8; ROOM]) {
+pub fn replay() {
     files::replay(
-        text,
         b"solve_positive_definite.txt",
         30,
         Call::SolvePositiveDefinite,

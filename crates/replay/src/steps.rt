@@ -2,12 +2,11 @@
 use crate::calls::Call;
 use crate::cases::Case;
 use crate::files;
-use crate::files::ROOM;
 use crate::outcomes::Outcome;
 use refusal::Refusal;
 
-pub fn replay(text: &mut [u8; ROOM]) {
-    files::replay(text, b"limit_pose_step.txt", 5, Call::LimitPoseStep);
+pub fn replay() {
+    files::replay(b"limit_pose_step.txt", 5, Call::LimitPoseStep);
 }
 
 pub fn limit_pose_step(case: Case) -> Outcome {

@@ -2,40 +2,27 @@
 use crate::calls::Call;
 use crate::cases::Case;
 use crate::files;
-use crate::files::ROOM;
 use crate::outcomes::Outcome;
 use reduced_system::ReducedSystem;
 use refusal::Refusal;
 
-pub fn replay(text: &mut [u8; ROOM]) {
-    files::replay(text, b"linearize_point.txt", 37, Call::LinearizePoint);
-    files::replay(text, b"system_new.txt", 48, Call::SystemNew);
-    files::replay(text, b"system_add.txt", 108, Call::SystemAdd);
+pub fn replay() {
+    files::replay(b"linearize_point.txt", 37, Call::LinearizePoint);
+    files::replay(b"system_new.txt", 48, Call::SystemNew);
+    files::replay(b"system_add.txt", 108, Call::SystemAdd);
+    files::replay(b"system_finish_damping.txt", 49, Call::SystemFinishDamping);
+    files::replay(b"system_is_valid.txt", 48, Call::SystemIsValid);
     files::replay(
-        text,
-        b"system_finish_damping.txt",
-        49,
-        Call::SystemFinishDamping,
-    );
-    files::replay(text, b"system_is_valid.txt", 48, Call::SystemIsValid);
-    files::replay(
-        text,
         b"system_scaled_gradient_inf_norm.txt",
         48,
         Call::SystemGradientNorm,
     );
     files::replay(
-        text,
         b"system_predicted_reduction.txt",
         55,
         Call::SystemPredictedReduction,
     );
-    files::replay(
-        text,
-        b"point_step_with_damping_norm.txt",
-        65,
-        Call::PointStep,
-    );
+    files::replay(b"point_step_with_damping_norm.txt", 65, Call::PointStep);
 }
 
 pub fn linearize_point(case: Case) -> Outcome {
