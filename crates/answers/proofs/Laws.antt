@@ -1,6 +1,6 @@
 -- Answers stored in lent memory. Assumes nothing.
 use mathlib.Core.Path.{_≡_, refl, ap, _∙_}
-use mathlib.Core.Bool.{Bool, true, false, not, _&&_, true≢false}
+use mathlib.Core.Bool.{Bool, true, false, not, _&&_, cond, true≢false}
 use mathlib.Core.List.{List, [], _∷_}
 use Prim.Native.Nat.{ℕ}
 use native.Mathlib.Omega.{arith}
@@ -9,16 +9,29 @@ use lib.Dec.{eqb}
 use lib.ListN.{length, set}
 use Rattle.refusal.specs.Refused.{none, isNone}
 use Rattle.refusal.specs.declared.Refusal.{Refusal}
-use Rattle.answers.specs.Answers.{code, lengthsCode, stored, answer, Answered}
+use Rattle.answers.specs.Answers.{code, lengthsCode, stored, Stores, answer, Answered}
 
-module _ {A : Type 0} (r : Refusal) (values out : List A) (b : Bool) (e : b ≡ isNone r) where
-  pub stored-none : not b ≡ true → out ≡ stored r values out
+module _ {A : Type 0} (r : Refusal) (values out : List A) where
+  stored-length : length values ≡ length out → length (stored r values out) ≡ length out
   unfolding stored
-  stored-none t = rw (← e, not-true b t) refl
+  stored-length e = by (isNone r)
+    where
+      by : (b : Bool) → length (cond b values out) ≡ length out
+      by true = e
+      by false = refl
 
-  pub stored-some : (after : List A) → not b ≡ false → after ≡ values → after ≡ stored r values out
-  unfolding stored
-  stored-some after t k = rw (← e, not-false b t) k
+  module _ (b : Bool) (e : b ≡ isNone r) where
+    pub stored-none : not b ≡ true → out ≡ stored r values out
+    unfolding stored
+    stored-none t = rw (← e, not-true b t) refl
+
+    pub stored-some : (after : List A) → not b ≡ false → after ≡ values → after ≡ stored r values out
+    unfolding stored
+    stored-some after t k = rw (← e, not-false b t) k
+
+    pub stores-some : (after : List A) → not b ≡ false → Stores values out after → Stores (stored r values out) out after
+    unfolding stored
+    stores-some after t k = rw (← e, not-false b t) k
 
 -- ---- answering
 
@@ -29,11 +42,10 @@ too-short fits refusal values out number t e = rw (not-true fits t) (record { sa
 
 -- the call's own answer
 pub answers : {A : Type 0} (fits : Bool) (refusal r : Refusal) (values v out after : List A) (number : ℕ) → not fits ≡ false → r ≡ refusal → v ≡ values
-    → length v ≡ length out → (number ≡ code r) × (length v ≡ length out → after ≡ stored r v out) × ((length v ≡ length out → ⊥) → after ≡ out)
-    → Answered number after (answer fits refusal values out)
+    → length v ≡ length out → (number ≡ code r) × Stores (stored r v out) out after → Answered number after (answer fits refusal values out)
 unfolding answer
 answers fits refusal r values v out after number t p q n e =
-    rw (not-false fits t) (record { same-number = e .0 ∙ ap code p; same-out = e .1 n ∙ ap (λ (x : Refusal). stored x v out) p ∙ ap (λ (x : List _). stored refusal x out) q })
+    rw (not-false fits t) (record { same-number = e .0 ∙ ap code p; same-out = e .1 .fits (stored-length r v out n) ∙ ap (λ (x : Refusal). stored x v out) p ∙ ap (λ (x : List _). stored refusal x out) q })
 
 -- the answer of a call that refuses nothing
 pub answers-none : {A : Type 0} (fits : Bool) (values out after : List A) (number : ℕ) → not fits ≡ false → number ≡ code none → after ≡ values

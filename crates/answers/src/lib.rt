@@ -1,7 +1,6 @@
 // What the calls of the C interface answer: a refusal as one number, and values stored in lent memory. Where lengths do
 // not fit, the memory stays as it was.
 ghost use mathlib.Core.Path.{_≡_};
-ghost use lib.ListN.{length};
 ghost use Rattle.answers.specs.Answers as Answers;
 use refusal::Refusal;
 
@@ -22,8 +21,7 @@ pub fn lengths() -> u64
 // Stores the values where nothing was refused and `out` has room for just as many, and answers the refusal's code.
 pub fn answer(refusal: Refusal, values: &[f64], out: &mut [f64]) -> u64
     ensures { λ r. ⌜ (r ≡ Answers.code refusal)
-        × (length (now (values .entry)) ≡ length (now (out .entry)) → now (out .exit) ≡ Answers.stored refusal (now (values .entry)) (now (out .entry)))
-        × ((length (now (values .entry)) ≡ length (now (out .entry)) → ⊥) → now (out .exit) ≡ now (out .entry)) ⌝ }
+        × Answers.Stores (Answers.stored refusal (now (values .entry)) (now (out .entry))) (now (out .entry)) (now (out .exit)) ⌝ }
 {
     if !refusal.is_none() {
         return code(refusal);
