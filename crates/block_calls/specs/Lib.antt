@@ -1,2 +1,2 @@
--- What the calls on blocks answer.
+-- What the calls on a point answer.
 pub mod Calls

@@ -87,7 +87,7 @@ fn deviations_refused(inverse_deviations: &[f64], n: u32) -> Refusal
     ensures { λ r. ⌜ r ≡ First.first (Checks.deviationRefused (now («inverse_deviations» .entry))) 0 n ⌝ }
 {
     for i in 0..n {
-        if !views::good_deviation(number::entry(inverse_deviations, i as usize)) {
+        if !views::good_deviation(vectors::entry(inverse_deviations, i as usize)) {
             return Refusal::at(refusal::INVERSE_DEVIATION, 0, i);
         }
     }
@@ -107,7 +107,7 @@ fn points_refused(points: &[f64], n: u32) -> Refusal
 {
     for i in 0..n {
         let point = correspondences::point_at(points, i);
-        if !number::all_finite(&point) {
+        if !vectors::all_finite(&point) {
             return Refusal::at(refusal::POINT, 0, i);
         }
     }
@@ -136,7 +136,7 @@ fn view_refused(view: &[f64], number: u32, n: u32) -> Refusal
 {
     for i in 0..n {
         let observation = correspondences::pair_at(view, i);
-        if !number::all_finite(&observation) {
+        if !vectors::all_finite(&observation) {
             return Refusal::at(refusal::OBSERVATION, number, i);
         }
     }

@@ -26,9 +26,9 @@ pub fn point_at(points: &[f64], i: u32) -> [f64; 3]
         return [points[at], points[at + 1], points[at + 2]];
     }
     [
-        number::entry(points, at),
-        number::entry(points, at + 1),
-        number::entry(points, at + 2),
+        vectors::entry(points, at),
+        vectors::entry(points, at + 1),
+        vectors::entry(points, at + 2),
     ]
 }
 
@@ -40,7 +40,7 @@ pub fn pair_at(view: &[f64], i: u32) -> [f64; 2]
     if at + 1 < view.len() {
         return [view[at], view[at + 1]];
     }
-    [number::entry(view, at), number::entry(view, at + 1)]
+    [vectors::entry(view, at), vectors::entry(view, at + 1)]
 }
 
 // The correspondence at an index, which may lie beyond the end
@@ -57,7 +57,7 @@ pub fn correspondence_at(
         point: point_at(points, i),
         view1: pair_at(view1, i),
         view2: pair_at(view2, i),
-        inverse_deviation: number::entry(inverse_deviations, i as usize),
+        inverse_deviation: vectors::entry(inverse_deviations, i as usize),
     }
 }
 

@@ -37,7 +37,7 @@ pub fn rig(x: &[f64]) -> Rig
             rotation: slices::vector9(x, 10),
             translation: slices::vector3(x, 19),
             basis: slices::vector6(x, 22),
-            baseline: number::entry(x, 28),
+            baseline: vectors::entry(x, 28),
         },
     }
 }
@@ -49,7 +49,7 @@ pub fn correspondence(x: &[f64]) -> Correspondence
         point: slices::vector3(x, 0),
         view1: slices::vector2(x, 3),
         view2: slices::vector2(x, 5),
-        inverse_deviation: number::entry(x, 7),
+        inverse_deviation: vectors::entry(x, 7),
     }
 }
 
@@ -62,8 +62,8 @@ pub fn block(x: &[f64]) -> LocalLinearization
         point_hessian: slices::vector9(x, 40),
         pose_gradient: slices::vector5(x, 49),
         point_gradient: slices::vector3(x, 54),
-        cost: number::entry(x, 57),
-        squared_residual: number::entry(x, 58),
+        cost: vectors::entry(x, 57),
+        squared_residual: vectors::entry(x, 58),
         refusal: Refusal::none(),
     }
 }
@@ -75,14 +75,14 @@ pub fn system(x: &[f64], counts: &[u16]) -> ReducedSystem
     ReducedSystem {
         hessian: slices::vector25(x, 0),
         gradient: slices::vector5(x, 25),
-        cost: number::entry(x, 30),
-        squared_residual: number::entry(x, 31),
+        cost: vectors::entry(x, 30),
+        squared_residual: vectors::entry(x, 31),
         full_pose_gradient: slices::vector5(x, 32),
         pose_diagonal: slices::vector5(x, 37),
-        point_model_reduction: number::entry(x, 42),
-        scaled_point_gradient_inf_norm: number::entry(x, 43),
+        point_model_reduction: vectors::entry(x, 42),
+        scaled_point_gradient_inf_norm: vectors::entry(x, 43),
         weak_point_count: count(counts, 0),
-        minimum_point_rcond: number::entry(x, 44),
+        minimum_point_rcond: vectors::entry(x, 44),
         valid: count(counts, 2) != 0,
         block_count: count(counts, 1),
     }

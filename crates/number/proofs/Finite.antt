@@ -1,16 +1,8 @@
--- A sum or a product is finite only where both operands are; a list, where every entry is. Assumes nothing.
-use mathlib.Core.Path.{_≡_, refl, sym, ap, _∙_}
-use mathlib.Core.Bool.{Bool, true, false, not, _&&_, cond}
-use borrow.Author.Tests.{not-true, not-false}
-use mathlib.Core.List.{List}
-use Prim.Native.Nat.{ℕ, _+_, _<_}
-use native.Mathlib.Numerals.{add-one}
-use lib.ListN.{length, drop}
-use lib.Seq.{drop-cons, drop-length}
+-- A sum or a product is finite only where both operands are. Assumes nothing.
+use mathlib.Core.Bool.{Bool, true, false, cond}
 use lib.Dec.{T, eqb}
 use lib.Ieee.{Float, nan, inf, fin, Format, unlike, add, mul}
 use Rattle.number.specs.Parts.{isFinite}
-use Rattle.number.specs.Vectors.{_!_, allFinite}
 
 -- neither answer of an operation on an infinity is finite
 never : (b s : Bool) → T (isFinite (cond b nan (inf s))) → ⊥
@@ -40,21 +32,3 @@ finite-mul f (inf s) (fin t n d) h = absurd (never (eqb n 0) (unlike s t) h)
 finite-mul f (fin s m e) nan h = absurd h
 finite-mul f (fin s m e) (inf t) h = absurd (never (eqb m 0) (unlike s t) h)
 finite-mul f (fin s m e) (fin t n d) h = (tt, tt)
-
--- ---- a list, entry by entry: what is left from i on decides
-
-module _ (l : List Float) (i : ℕ) (left : allFinite l ≡ allFinite (drop i l)) where
-  module _ (h : i < length l) (b : Bool) (e : b ≡ isFinite (l ! i)) where
-    next : allFinite (drop i l) ≡ (b && allFinite (drop (i + 1) l))
-    unfolding allFinite
-    next = rw (drop-cons l i nan h, add-one i, e) refl
-
-    pub finite-stops : not b ≡ true → false ≡ allFinite l
-    finite-stops t = sym (left ∙ next ∙ ap (λ (c : Bool). c && allFinite (drop (i + 1) l)) (not-true b t))
-
-    pub finite-goes-on : not b ≡ false → allFinite l ≡ allFinite (drop (i + 1) l)
-    finite-goes-on t = left ∙ next ∙ ap (λ (c : Bool). c && allFinite (drop (i + 1) l)) (not-false b t)
-
-  pub finite-ends : i ≡ length l → true ≡ allFinite l
-  unfolding allFinite
-  finite-ends e = sym (left ∙ rw (e, drop-length) refl)

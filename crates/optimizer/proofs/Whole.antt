@@ -15,7 +15,8 @@ use Rattle.solver.specs.Solver.{solvePositiveDefinite}
 use Rattle.solver.specs.declared.Solved.{Solved}
 use Rattle.reduced_system.specs.Model.{isValid}
 use Rattle.reduced_system.specs.declared.ReducedSystem.{ReducedSystem}
-use Rattle.optimizer.specs.declared.StepResult.{StepResult}
+use Rattle.step_result.specs.declared.StepResult.{StepResult}
+use Rattle.step_result.specs.Results.{finished, notStepped}
 use Rattle.point_steps.specs.PointSteps.{stepsTo, sumsTo}
 use Rattle.point_steps.specs.declared.Sums.{Sums}
 use Rattle.correspondences.specs.Problem.{Problem, count}
@@ -24,7 +25,7 @@ use Rattle.pose_step.specs.PoseStep.{poseStep}
 use Rattle.assembly.specs.Assembly.{reducedSystem, reduced}
 use Rattle.assembly.specs.declared.Reduced.{Reduced}
 use Rattle.assembly.proofs.Systems.{refused-system, given-system}
-use Rattle.optimizer.specs.Step.{solvedOf, poseStepOf, finished, notStepped, stepped, solvedStep, refused, step, written, Done}
+use Rattle.optimizer.specs.Step.{solvedOf, poseStepOf, stepped, solvedStep, refused, step, written, Done}
 use Rattle.refusal.proofs.Scans.{row-refuses}
 use Rattle.checks.proofs.Passed.{checked}
 use Rattle.point_steps.proofs.PointSteps.{no-step-refused}
@@ -46,7 +47,7 @@ module _ (p : Problem) (room : List Float) (r : StepResult) (system : ReducedSys
     unfolding solvedStep written notStepped isNone
     not-solved u y l h = (h ∙ rw (l, ← same, ← k, ← e, ← f, not-false valid t, not-true b u) refl, rw (h, l) refl)
 
-    module _ (u : not b ≡ false) (s : List Float) (l : s ≡ poseStep (x .x)) (sums : Sums) (h : r ≡ finished system s (p .damping) (count p) sums) where
+    module _ (u : not b ≡ false) (s : List Float) (l : s ≡ poseStep (x .x)) (sums : Sums) (h : r ≡ finished system s (p .damping) (count p) (sums .squared) (sums .«damping_norm»)) where
       same-step : s ≡ poseStepOf p
       unfolding poseStepOf
       same-step = l ∙ ap (λ (y : Solved). poseStep (y .x)) same
@@ -63,9 +64,9 @@ module _ (p : Problem) (room : List Float) (r : StepResult) (system : ReducedSys
       unfolding stepped
       solves after m = (
         h
-            ∙ ap (λ (y : Sums). finished system s (p .damping) (count p) y) (m .0)
-            ∙ ap (λ (y : List Float). finished system y (p .damping) (count p) (sumsTo p y (count p))) same-step
-            ∙ ap (λ (y : ReducedSystem). finished y (poseStepOf p) (p .damping) (count p) (sumsTo p (poseStepOf p) (count p))) e
+            ∙ ap (λ (y : Sums). finished system s (p .damping) (count p) (y .squared) (y .«damping_norm»)) (m .0)
+            ∙ ap (λ (y : List Float). finished system y (p .damping) (count p) (sumsTo p y (count p) .squared) (sumsTo p y (count p) .«damping_norm»)) same-step
+            ∙ ap (λ (y : ReducedSystem). finished y (poseStepOf p) (p .damping) (count p) (sumsTo p (poseStepOf p) (count p) .squared) (sumsTo p (poseStepOf p) (count p) .«damping_norm»)) e
             ∙ sym takes,
         m .1 ∙ ap (λ (y : List Float). stepsTo p y (count p)) same-step ∙ sym writes,
       )

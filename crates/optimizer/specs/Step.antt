@@ -4,12 +4,8 @@ use mathlib.Core.Path.{_≡_}
 use mathlib.Core.Bool.{true, cond}
 use mathlib.Core.List.{List}
 use lib.Dec.{eqb}
-use lib.IntN.{pos}
 use lib.ListN.{length}
-use lib.Ieee.{Float, binary64, ofInt}
-use Rattle.number.specs.Binary64.{_⊘_, zero as zero·}
-use Rattle.root.specs.Root.{sqrt}
-use Rattle.number.specs.Vectors.{tabulate}
+use lib.Ieee.{Float}
 use Rattle.refusal.specs.Rows as Rows
 use Rattle.refusal.specs.First.{unless, orElse}
 use Rattle.refusal.specs.Refused.{of, none, isNone}
@@ -18,13 +14,12 @@ use Rattle.correspondences.specs.Problem.{Problem, count}
 use Rattle.checks.specs.Checks as Checks
 use Rattle.solver.specs.Solver.{solvePositiveDefinite}
 use Rattle.solver.specs.declared.Solved.{Solved}
-use Rattle.reduced_system.specs.Model.{isValid, gradientInfNorm, predictedReduction}
+use Rattle.reduced_system.specs.Model.{isValid}
 use Rattle.assembly.specs.Assembly.{reducedSystem}
 use Rattle.pose_step.specs.PoseStep.{poseStep}
-use Rattle.reduced_system.specs.declared.ReducedSystem.{ReducedSystem}
 use Rattle.point_steps.specs.PointSteps.{stepAt, stepsTo, sumsTo}
-use Rattle.point_steps.specs.declared.Sums.{Sums}
-use Rattle.optimizer.specs.declared.StepResult.{StepResult}
+use Rattle.step_result.specs.Results.{finished, notStepped}
+use Rattle.step_result.specs.declared.StepResult.{StepResult}
 
 -- ---- the step of the pose
 
@@ -37,41 +32,10 @@ poseStepOf p = poseStep (solvedOf p .x)
 
 -- ---- the whole
 
-abbrev pub rms : Float → ℕ → Float
-rms squares n = sqrt (squares ⊘ ofInt binary64 (pos n))
-
--- the result, from the system, the limited step of the pose and the sums
-unfoldable pub finished : ReducedSystem → List Float → Float → ℕ → Sums → StepResult
-finished system s damping n sums = record {
-  «pose_step» = s;
-  cost = system .cost;
-  «squared_residual» = system .«squared_residual»;
-  «gradient_norm» = gradientInfNorm system;
-  «weak_point_count» = system .«weak_point_count»;
-  «minimum_point_rcond» = system .«minimum_point_rcond»;
-  «point_step_rms» = rms (sums .squared) n;
-  «point_damping_norm» = sums .«damping_norm»;
-  «predicted_reduction» = predictedReduction system s damping (sums .«damping_norm») .reduction;
-  refusal = none;
-}
-
--- every number beside a refusal is +0
-unfoldable pub notStepped : Refusal → StepResult
-notStepped r = record {
-  «pose_step» = tabulate 5 (λ i. zero·);
-  cost = zero·;
-  «squared_residual» = zero·;
-  «gradient_norm» = zero·;
-  «weak_point_count» = 0;
-  «minimum_point_rcond» = zero·;
-  «point_step_rms» = zero·;
-  «point_damping_norm» = zero·;
-  «predicted_reduction» = zero·;
-  refusal = r;
-}
-
 unfoldable pub stepped : Problem → StepResult
-stepped p = finished (reducedSystem p) (poseStepOf p) (p .damping) (count p) (sumsTo p (poseStepOf p) (count p))
+stepped p =
+    let sums = sumsTo p (poseStepOf p) (count p) in
+    finished (reducedSystem p) (poseStepOf p) (p .damping) (count p) (sums .squared) (sums .«damping_norm»)
 
 -- rows 10 and 11, then the step
 unfoldable pub solvedStep : Problem → StepResult

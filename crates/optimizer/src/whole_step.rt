@@ -9,10 +9,10 @@ ghost use Rattle.assembly.specs.Assembly as Assembly;
 ghost use Rattle.checks.specs.Checks as Checks;
 ghost use Rattle.correspondences.specs.Problem as Problem;
 ghost use Rattle.optimizer.specs.Step as Steps;
-use crate::StepResult;
 use correspondences::Rig;
 use reduced_system::ReducedSystem;
 use refusal::Refusal;
+use step_result::StepResult;
 
 // One step. Tests rows 1 to 11; refused, it leaves the room as it was.
 pub fn step<'a>(
@@ -29,12 +29,12 @@ pub fn step<'a>(
 {
     // Where the two lengths differ, one of them is not 3n; where they do not, `reduced_system` tests both.
     if room.len() != points.len() {
-        return not_stepped(Refusal::of(refusal::LENGTHS));
+        return StepResult::not_stepped(Refusal::of(refusal::LENGTHS));
     }
     let reduced = assembly::reduced_system(points, view1, view2, inverse_deviations, rig, damping);
     let refusal = reduced.refusal;
     if !refusal.is_none() {
-        return not_stepped(refusal);
+        return StepResult::not_stepped(refusal);
     }
     let system = reduced.system;
     solved_step(
@@ -65,15 +65,16 @@ fn solved_step(
     ensures { λ r. ⌜ (r ≡ Steps.solvedStep (Problem.problem (now (points .entry)) (now (view1 .entry)) (now (view2 .entry)) (now («inverse_deviations» .entry)) rig damping))
         × (now (room .exit) ≡ Steps.written (Problem.problem (now (points .entry)) (now (view1 .entry)) (now (view2 .entry)) (now («inverse_deviations» .entry)) rig damping) r (now (room .entry))) ⌝ }
 {
+    let n = inverse_deviations.len() as u32;
     if !system.is_valid() {
-        return not_stepped(Refusal::of(refusal::NOT_FACTORED));
+        return StepResult::not_stepped(Refusal::of(refusal::NOT_FACTORED));
     }
     let hessian = system.hessian;
     let gradient = system.gradient;
     let solved = solver::solve_positive_definite(hessian, gradient);
     let not_solved = solved.refusal;
     if !not_solved.is_none() {
-        return not_stepped(Refusal::of(refusal::NOT_SOLVED));
+        return StepResult::not_stepped(Refusal::of(refusal::NOT_SOLVED));
     }
     let x = solved.x;
     let pose_step = pose_step::pose_step(x);
@@ -87,49 +88,12 @@ fn solved_step(
         pose_step,
         room,
     );
-    finished(system, pose_step, damping, inverse_deviations.len(), sums)
-}
-
-fn finished(
-    system: ReducedSystem,
-    pose_step: [f64; 5],
-    damping: f64,
-    n: usize,
-    sums: point_steps::Sums,
-) -> StepResult
-    requires { ⌜ n ≤ Checks.maxPoints ⌝ }
-    ensures { λ r. ⌜ r ≡ Steps.finished system «pose_step» damping n sums ⌝ }
-{
-    let norms = sums.damping_norm;
-    let predicted = system.predicted_reduction(pose_step, damping, norms);
-    let count = (n as u32) as f64;
-    StepResult {
+    StepResult::finished(
+        system,
         pose_step,
-        cost: system.cost,
-        squared_residual: system.squared_residual,
-        gradient_norm: system.scaled_gradient_inf_norm(),
-        weak_point_count: system.weak_point_count,
-        minimum_point_rcond: system.minimum_point_rcond,
-        point_step_rms: root::sqrt(sums.squared / count),
-        point_damping_norm: norms,
-        predicted_reduction: predicted.reduction,
-        refusal: Refusal::none(),
-    }
-}
-
-fn not_stepped(refusal: Refusal) -> StepResult
-    ensures { λ r. ⌜ r ≡ Steps.notStepped refusal ⌝ }
-{
-    StepResult {
-        pose_step: [0.0; 5],
-        cost: 0.0,
-        squared_residual: 0.0,
-        gradient_norm: 0.0,
-        weak_point_count: 0,
-        minimum_point_rcond: 0.0,
-        point_step_rms: 0.0,
-        point_damping_norm: 0.0,
-        predicted_reduction: 0.0,
-        refusal,
-    }
+        damping,
+        n,
+        sums.squared,
+        sums.damping_norm,
+    )
 }

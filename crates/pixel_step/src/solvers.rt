@@ -1,6 +1,6 @@
 // The 5 by 5 solve.
 ghost use Rattle.answers.specs.Answers as Answers;
-ghost use Rattle.block_calls.specs.Calls as Calls;
+ghost use Rattle.matrix_calls.specs.Calls as Calls;
 
 // a: 25 numbers, row by row; b: 5; out: 5
 #[no_mangle]
@@ -8,5 +8,5 @@ pub extern "C" fn pixel_step_solve_positive_definite(a: &[f64], b: &[f64], out: 
     ensures { λ r. ⌜ Answers.Answered r (now (out .exit))
         (Calls.solvePositiveDefinite (now (a .entry)) (now (b .entry)) (now (out .entry))) ⌝ }
 {
-    block_calls::solve_positive_definite(a, b, out)
+    matrix_calls::solve_positive_definite(a, b, out)
 }

@@ -1,8 +1,8 @@
 -- `reciprocal_condition_number` of point_block.rs: 1 ÷ (infinity norm of the matrix × that of the inverse), or 0 if that product is not positive and finite.
-use mathlib.Core.Bool.{cond}
+use mathlib.Core.Bool.{Bool, cond}
 use mathlib.Core.List.{List, [], _∷_}
-use lib.Ieee.{Float}
-use Rattle.number.specs.Binary64.{_⊗_, zero, one, recip}
+use lib.Ieee.{Float, le}
+use Rattle.number.specs.Binary64.{_⊗_, zero, one, epsilon192, recip}
 use Rattle.number.specs.Parts.{abs, positiveFinite}
 use Rattle.number.specs.Vectors.{_!_, sum}
 use Rattle.extrema.specs.Extrema.{largest}
@@ -27,3 +27,7 @@ unfoldable pub reciprocalConditionNumber : List Float → List Float → Float
 reciprocalConditionNumber i m =
     let denominator = infinityNorm m ⊗ infinityNorm (inverseMatrix i) in
     cond (positiveFinite denominator) (recip denominator) zero
+
+-- at damping zero: a block that factors with an rcond at most 192ε is weak
+abbrev pub isWeak : List Float → List Float → Bool
+isWeak i m = le (reciprocalConditionNumber i m) epsilon192

@@ -27,7 +27,8 @@ use Rattle.record_form.specs.Form as Form
 use Rattle.run.specs.Run.{column, run, damping}
 use Rattle.text.specs.Text.{space, lineFeed, digit, withoutZeros, decimal, pasted, Put}
 use Rattle.letters.specs.Letters.{letter}
-use Rattle.lines.specs.Lines.{bitsThen, runLine, pointLine, validity, verdict, sumLine, refusedLine}
+use Rattle.lines.specs.Lines.{bitsThen, runLine, pointLine, refusedLine}
+use Rattle.sum_line.specs.SumLine.{validity, verdict, sumLine}
 use Rattle.record.specs.Lists.{pointLines, linesOf, refused, list, maxList, NeverNan, Wrote}
 use Rattle.record_form.proofs.Forms.{formed, few-points}
 use Rattle.text.proofs.Puts.{put-fits, put-length}

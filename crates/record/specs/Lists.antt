@@ -19,7 +19,8 @@ use Rattle.record_form.specs.Form as Form
 use Rattle.run.specs.Run.{rig, run, damping}
 use Rattle.text.specs.Text.{pasted}
 use Rattle.letters.specs.Letters.{letter}
-use Rattle.lines.specs.Lines.{runLine, pointLine, sumLine, refusedLine}
+use Rattle.lines.specs.Lines.{runLine, pointLine, refusedLine}
+use Rattle.sum_line.specs.SumLine.{sumLine}
 use Rattle.record.specs.declared.list.Written.{Written}
 
 -- a record of the right form, with its rig and its damping

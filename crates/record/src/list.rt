@@ -94,7 +94,7 @@ fn put_lines(out: &mut [u8], record: &[u8], rig: Rig, damping: f64, system: Redu
     let n = fields::point_fields(record);
     let points_at = lines::put_run(out, 0, n as u32, damping);
     let sum_at = put_points(out, points_at, record, rig, damping);
-    lines::put_sum(out, sum_at, system)
+    sum_line::put_sum(out, sum_at, system)
 }
 
 // A line for each point

@@ -78,7 +78,7 @@ impl ReducedSystem {
     {
         let gradient = self.gradient;
         let hessian = self.hessian;
-        self.valid & number::all_finite(&gradient) & number::all_finite(&hessian)
+        self.valid & vectors::all_finite(&gradient) & vectors::all_finite(&hessian)
     }
 
     // The largest scaled gradient entry of all points and of the pose

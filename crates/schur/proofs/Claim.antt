@@ -1,6 +1,6 @@
 -- Demand 3, proved: one induction over the calls. Assumes nothing.
 use mathlib.Core.Path.{_≡_, refl, sym, ap, _∙_, subst}
-use mathlib.Core.Bool.{Bool, true, false, not, _&&_, _||_, cond, and-true, and-false, and-assoc}
+use mathlib.Core.Bool.{Bool, true, false, not, _&&_, _||_, cond, and-true, and-assoc}
 use mathlib.Core.List.{List, [], _∷_, _++_, map}
 use Prim.Native.Nat.{ℕ, suc, _+_, _≤_}
 use native.Mathlib.Omega.{arith}
@@ -18,7 +18,7 @@ use Rattle.extrema.specs.Extrema.{min}
 use Rattle.extrema.proofs.Laws.{min-le-left, nonneg-min}
 use Rattle.refusal.specs.Rows as Rows
 use Rattle.refusal.specs.Refused.{of, none, isNone}
-use Rattle.point_block.specs.Condition.{reciprocalConditionNumber}
+use Rattle.point_block.specs.Condition.{reciprocalConditionNumber, isWeak}
 use Rattle.point_damping.specs.Damping.{goodDamping}
 use Rattle.point_block.specs.Lone.{factor, loneFactor}
 use Rattle.point_block.proofs.Laws.{lone-factors, rcond-nonneg}
@@ -27,7 +27,8 @@ use Rattle.reduced_system.specs.declared.ReducedSystem.{ReducedSystem}
 use Rattle.reduced_system.specs.declared.Added.{Added}
 use Rattle.reduced_system.specs.Model.{newSystem}
 use Rattle.elimination.specs.Elimination.{reducedHessian, reducedGradient, pointReduction}
-use Rattle.schur.specs.System.{maxBlocks, isZero, isWeak, raised, notEliminated, eliminated, elimination, takenWith, taken, add}
+use Rattle.block_elimination.specs.BlockElimination.{isZero, notEliminated, eliminated, eliminate}
+use Rattle.schur.specs.System.{maxBlocks, raised, takenWith, takenBy, taken, add}
 use Rattle.schur.specs.Calls.{Inputs, made, Call, atDamping, atRefused, added, results, after, afterBlocks, Tally, factors, smallRcond, hasRoom, takenIn, tally, refusals, blocksIn, all, filter}
 use Rattle.linearization.proofs.Costs.{Costs, made-costs}
 use Rattle.schur.specs.Claim.{CallByCall, final, SameEquations, Further, Claim}
@@ -59,20 +60,20 @@ module _ (d : Float) (good : T (goodDamping d)) where
   unfolding factors
   same-factor b = sym (lone-factors (b .«point_hessian») d good)
 
-  same-rcond : (b : LocalLinearization) → factors d b ≡ true → isWeak (inverse b) b ≡ smallRcond d b
+  same-rcond : (b : LocalLinearization) → factors d b ≡ true → isWeak (inverse b) (b .«point_hessian») ≡ smallRcond d b
   unfolding loneFactor smallRcond
   same-rcond b e = rw (is-true (goodDamping d) good, same-factor b ∙ e) refl
 
-  taken-factored : (s : ReducedSystem) (b : LocalLinearization) → factors d b ≡ true → taken s b d ≡ takenWith s b (eliminated s b d (inverse b))
-  unfolding taken elimination
+  taken-factored : (s : ReducedSystem) (b : LocalLinearization) → factors d b ≡ true → taken s b d ≡ takenBy s b (eliminated s b d (inverse b))
+  unfolding taken eliminate
   taken-factored s b e = rw (same-factor b ∙ e) refl
 
-  taken-refused : (s : ReducedSystem) (b : LocalLinearization) → factors d b ≡ false → taken s b d ≡ takenWith s b (notEliminated s d)
-  unfolding taken elimination
+  taken-refused : (s : ReducedSystem) (b : LocalLinearization) → factors d b ≡ false → taken s b d ≡ takenBy s b (notEliminated s (isZero d))
+  unfolding taken eliminate
   taken-refused s b e = rw (same-factor b ∙ e) refl
 
-  split : (s : ReducedSystem) (b : LocalLinearization) (P : ReducedSystem → Type 0) → (factors d b ≡ true → P (takenWith s b (eliminated s b d (inverse b))))
-      → (factors d b ≡ false → P (takenWith s b (notEliminated s d))) → P (taken s b d)
+  split : (s : ReducedSystem) (b : LocalLinearization) (P : ReducedSystem → Type 0) → (factors d b ≡ true → P (takenBy s b (eliminated s b d (inverse b))))
+      → (factors d b ≡ false → P (takenBy s b (notEliminated s (isZero d)))) → P (taken s b d)
   split s b P f g = by (factors d b) refl
     where
       by : (x : Bool) → factors d b ≡ x → P (taken s b d)
@@ -94,18 +95,14 @@ module _ (d : Float) (good : T (goodDamping d)) where
 
     valid-taken : taken s b d .valid ≡ (s .valid && factors d b)
     unfolding eliminated notEliminated takenWith
-    valid-taken = split s b (λ t. t .valid ≡ (s .valid && factors d b)) (λ e. rw e (sym (and-true (s .valid)))) (λ e. rw e (sym (and-false (s .valid))))
+    valid-taken = split s b (λ t. t .valid ≡ (s .valid && factors d b)) (λ e. rw e refl) (λ e. rw e refl)
 
     weak-taken : taken s b d .«weak_point_count» ≡ raised (isZero d && (not (factors d b) || smallRcond d b)) (s .«weak_point_count»)
     unfolding eliminated notEliminated takenWith
     weak-taken =
         split s b (λ t. t .«weak_point_count» ≡ raised (isZero d && (not (factors d b) || smallRcond d b)) (s .«weak_point_count»))
-        (λ e. rw (e, same-rcond b e) (both (isZero d) (smallRcond d b)))
+        (λ e. rw (e, same-rcond b e) refl)
         (λ e. rw e (ap (λ (z : Bool). raised z (s .«weak_point_count»)) (sym (and-true (isZero d)))))
-      where
-        both : (z x : Bool) → cond z (raised x (s .«weak_point_count»)) (s .«weak_point_count») ≡ raised (z && x) (s .«weak_point_count»)
-        both true x = refl
-        both false x = refl
 
     counts-taken : Counts s → Counts (taken s b d)
     counts-taken c =

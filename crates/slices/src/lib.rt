@@ -29,7 +29,7 @@ fn read(x: &[f64], start: u32, out: &mut [f64])
 {
     let first = start as usize;
     for i in 0..out.len() {
-        out[i] = number::entry(x, first + i);
+        out[i] = vectors::entry(x, first + i);
     }
 }
 

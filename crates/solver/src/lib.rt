@@ -95,13 +95,13 @@ fn good_sums(sums: [f64; 5], pivot: f64) -> bool
 fn finite5(x: [f64; 5]) -> bool
     ensures { λ r. ⌜ r ≡ Vectors.allFinite x ⌝ }
 {
-    number::all_finite(&x)
+    vectors::all_finite(&x)
 }
 
 fn finite25(x: [f64; 25]) -> bool
     ensures { λ r. ⌜ r ≡ Vectors.allFinite x ⌝ }
 {
-    number::all_finite(&x)
+    vectors::all_finite(&x)
 }
 
 fn row0(a: [f64; 25]) -> Row

@@ -8,7 +8,7 @@ use lib.Ieee.{Float}
 use Rattle.correspondences.specs.Problem.{Problem}
 use Rattle.correspondences.specs.declared.Rig.{Rig}
 use Rattle.optimizer.specs.Step as Step
-use Rattle.optimizer.specs.declared.StepResult.{StepResult}
+use Rattle.step_result.specs.declared.StepResult.{StepResult}
 use Rattle.flat.specs.Flat.{rig}
 use Rattle.answers.specs.Answers.{code, lengthsCode, stored, long}
 use Rattle.step_calls.specs.Calls.{step, Stepped, stepNumbers, stepCount}

@@ -9,7 +9,7 @@ use Rattle.refusal.specs.Refused.{none}
 use Rattle.correspondences.specs.Problem.{Problem}
 use Rattle.pose_step.specs.PoseStep as PoseStep
 use Rattle.optimizer.specs.Step as Step
-use Rattle.optimizer.specs.declared.StepResult.{StepResult}
+use Rattle.step_result.specs.declared.StepResult.{StepResult}
 use Rattle.number.specs.Vectors.{_!_}
 use Rattle.answers.specs.Answers.{code, lengthsCode, stored, Answer, answer, long}
 

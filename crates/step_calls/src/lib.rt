@@ -6,8 +6,8 @@ ghost use Rattle.correspondences.specs.Problem as Problem;
 ghost use Rattle.answers.specs.Answers as Answers;
 ghost use Rattle.flat.specs.Flat as Flat;
 ghost use Rattle.step_calls.specs.Calls as Calls;
-use optimizer::StepResult;
 use refusal::Refusal;
+use step_result::StepResult;
 
 // For n points: points and room 3n, views 2n each, inverse deviations n; rig: 29; out: 12; weak: 1
 pub fn step<'a>(

@@ -4,8 +4,8 @@ ghost use mathlib.Core.Path.{_≡_};
 ghost use Prim.Native.Nat.{_≤_};
 ghost use lib.ListN.{length};
 use correspondences::Rig;
-use optimizer::StepResult;
 use projection::PinholeCamera;
+use step_result::StepResult;
 use views::Pose;
 
 // What is varied of five points at depth 1, seen without error by two cameras that stand one apart

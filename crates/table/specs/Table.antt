@@ -6,14 +6,13 @@ use mathlib.Core.List.{List, [], _∷_}
 use lib.Ieee.{Float, binary64, ofBits}
 use Rattle.number.specs.Binary64.{zero, negZero, half, one}
 use Rattle.root.specs.Root.{sqrt}
-use Rattle.number.specs.Vectors.{tabulate}
 use Rattle.refusal.specs.Rows as Rows
 use Rattle.refusal.specs.Refused.{of, none}
 use Rattle.refusal.specs.declared.Refusal.{Refusal}
 use Rattle.projection.specs.Projection.{pixelProjection}
 use Rattle.projection.specs.declared.PinholeCamera.{PinholeCamera}
 use Rattle.point_block.specs.Lone.{factor, loneFactor}
-use Rattle.schur.specs.System.{isWeak}
+use Rattle.point_block.specs.Condition.{isWeak}
 use Rattle.pose_step.specs.PoseStep.{limitPoseStep}
 
 abbrev pub bits : ℕ → Float
@@ -31,21 +30,9 @@ diagonal a b c = a ∷ zero ∷ zero ∷ zero ∷ b ∷ zero ∷ zero ∷ zero �
 abbrev pub rcondOf : List Float → Refusal × Float
 rcondOf m = (loneFactor m zero .refusal, loneFactor m zero .rcond)
 
--- the lone factor's refusal at damping 0, and the weak test of `add` on a block with this point Hessian
+-- the lone factor's refusal at damping 0, and the weak test of `add`
 abbrev pub weakOf : List Float → Refusal × Bool
-weakOf m = (
-  loneFactor m zero .refusal,
-  isWeak (factor m zero .inverse) (record {
-    «pose_hessian» = tabulate 25 (λ i. zero);
-    «cross_hessian» = tabulate 15 (λ i. zero);
-    «point_hessian» = m;
-    «pose_gradient» = tabulate 5 (λ i. zero);
-    «point_gradient» = tabulate 3 (λ i. zero);
-    cost = zero;
-    «squared_residual» = zero;
-    refusal = none;
-  }),
-)
+weakOf m = (loneFactor m zero .refusal, isWeak (factor m zero .inverse) m)
 
 -- a figure: what is asked, and the answer
 pub data Row : Type 0 where

@@ -7,12 +7,13 @@ use Rattle.schur.proofs.taken.Tie as tie
 
 returns : tie.Need-returns
 unfolding taken
-returns c = rw (c .taken-with .ensures, c .before .elimination .ensures) refl
+returns c = rw (c .taken-with .ensures, c .before .raised .ensures, c .before .before .eliminate .ensures) refl
 
 pub taken-spec : {M : Type 1} → statement M
 taken-spec =
     tie.close
     (tie.spec
+    (λ c κs. search needs)
     (λ c κs. search needs)
     (λ c κs. search needs)
     returns)

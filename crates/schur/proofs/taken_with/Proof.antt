@@ -7,18 +7,17 @@ use Rattle.schur.proofs.taken_with.Tie as tie
 
 returns : tie.Need-returns
 returns c =
-    let m = c .before in
-    let d = m .before .before in
-    takes-with _ _ _ _ _ _ _ _ (d .before .before .sum5 .ensures) (d .before .diagonal5 .ensures) (d .sum52 .ensures) (m .before .point-gradient-norm .ensures) (m .max .ensures)
+    let d = c .before .before in
+    takes-with _ _ _ _ _ _ _ _ _ (d .before .before .sum5 .ensures) (d .before .diagonal5 .ensures) (d .sum52 .ensures) (c .before .point-gradient-norm .ensures) (c .max .ensures)
 
 pub taken-with-spec : {M : Type 1} → statement M
 taken-with-spec =
     tie.close
     (tie.spec
-    (λ c κs. search needs)
-    (λ c κs. search needs)
-    (λ c κs. search needs)
-    (λ c κs. search needs)
-    (λ c κs. search needs)
     (λ c. omega arith)
+    (λ c κs. search needs)
+    (λ c κs. search needs)
+    (λ c κs. search needs)
+    (λ c κs. search needs)
+    (λ c κs. search needs)
     returns)

@@ -1,6 +1,7 @@
 -- `optimizer::whole_step::solved_step` meets its contract. Assumes nothing.
 use Rattle.optimizer.proofs.Whole.{not-valid, not-solved, solves}
 use Rattle.correspondences.specs.Problem.{problem}
+use native.Mathlib.Omega.{arith}
 use borrow.Author.Needs.{needs}
 use Rattle.optimizer.proofs.whole_step.solved_step.Statement.{statement}
 use Rattle.optimizer.proofs.whole_step.solved_step.Tie as tie
@@ -39,6 +40,7 @@ pub solved-step-spec : {M : Type 1} → statement M
 solved-step-spec =
     tie.close
     (tie.spec
+    (λ c. omega (arith, c .before .before .before .before .before .pre .0))
     (λ c κs. search needs)
     (λ c κs. search needs)
     (λ c κs. search needs)
@@ -50,6 +52,6 @@ solved-step-spec =
     returns-2
     (λ c κs. search needs)
     (λ c κs. search needs)
-    (λ c κs. c .before .before .before .before .before .before .before .before .before .before .before .before .before .before .before .before .before .before .before .pre .0)
+    (λ c κs. search needs)
     same-length
     returns-3)

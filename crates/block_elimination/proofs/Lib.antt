@@ -1,0 +1,2 @@
+-- Laws of the elimination of a block.
+pub mod Eliminating

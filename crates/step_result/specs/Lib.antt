@@ -1,0 +1,2 @@
+-- What a whole step gives: optimizer.rs.
+pub mod Results

@@ -1,0 +1,2 @@
+-- Laws of finite lists.
+mod Finite
