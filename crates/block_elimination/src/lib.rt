@@ -9,7 +9,7 @@ use linearization::LocalLinearization;
 use point_block::PointBlockFactor;
 use reduced_system::ReducedSystem;
 
-// The equations without the point, and what the block shows of itself
+// The equations after a block, and what the block shows of itself
 pub struct Change {
     pub hessian: [f64; 25],
     pub gradient: [f64; 5],

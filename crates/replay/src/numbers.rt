@@ -1,4 +1,4 @@
-// The calls of `number`.
+// The calls of `number`, `extrema` and `root`.
 use crate::calls::Call;
 use crate::cases::Case;
 use crate::files;

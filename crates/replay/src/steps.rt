@@ -1,4 +1,4 @@
-// The calls of `optimizer`.
+// The calls of `pose_step`.
 use crate::calls::Call;
 use crate::cases::Case;
 use crate::files;

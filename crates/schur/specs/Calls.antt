@@ -18,7 +18,7 @@ use Rattle.views.specs.declared.Correspondence.{Correspondence}
 use Rattle.reduced_system.specs.declared.ReducedSystem.{ReducedSystem}
 use Rattle.reduced_system.specs.declared.Added.{Added}
 use Rattle.linearization.specs.Linearize.{linearizePoint}
-use Rattle.schur.specs.System.{maxBlocks, raised, add}
+use Rattle.schur.specs.System.{maxBlocks, add}
 
 -- what a block is made from
 pub record Inputs : Type 0 where
@@ -82,11 +82,14 @@ hasRoom blocks = ltb blocks maxBlocks
 abbrev pub atZero : Float → Bool
 atZero d = eq d zero
 
+abbrev pub oneMore : Bool → ℕ → ℕ
+oneMore b n = cond b (suc n) n
+
 abbrev pub takenIn : Float → Tally → LocalLinearization → Tally
 takenIn d t b = record {
   flag = t .flag && factors d b;
   blocks = suc (t .blocks);
-  weak = raised (atZero d && (not (factors d b) || smallRcond d b)) (t .weak);
+  weak = oneMore (atZero d && (not (factors d b) || smallRcond d b)) (t .weak);
 }
 
 abbrev pub counted : Float → Tally → Call → Tally

@@ -1,4 +1,4 @@
--- What the call of the whole step answers, and what the memory that it may write holds afterwards: the result where nothing is refused, and what it held before otherwise.
+-- What the calls of the whole step and of the limit of a pose step answer, and what the memory that they may write holds afterwards: the result where nothing is refused, and what it held before otherwise.
 use Prim.Native.Nat.{ℕ}
 use mathlib.Core.Path.{_≡_}
 use mathlib.Core.Bool.{_&&_, cond}

@@ -1,2 +1,2 @@
--- What the call of the whole step answers.
+-- What the calls of the whole step and of the limit of a pose step answer.
 pub mod Calls

@@ -1,2 +1,2 @@
--- Laws of finite lists.
+-- Laws of lists of finite numbers.
 mod Finite
