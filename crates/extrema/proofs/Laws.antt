@@ -2,7 +2,6 @@
 use mathlib.Core.Path.{_≡_, refl, sym, ap, _∙_, subst}
 use mathlib.Core.Bool.{Bool, true, false, not, _&&_, _||_, cond, and-true}
 use mathlib.Core.List.{List, [], _∷_}
-use mathlib.Core.Logic.{_⊎_}
 use Prim.Native.Nat.{_*_}
 use lib.Dec.{T, eqb, eqb→eq}
 use lib.Ieee.{Float, nan, inf, fin, Format, up, down, ofBits, lt, eq, le, fits, isNan}
@@ -11,9 +10,9 @@ use lib.Ieee.Fits.{and-l, down-pos}
 use Rattle.number.specs.Binary64.{zero}
 use Rattle.number.specs.Parts.{negative, nonneg}
 use Rattle.number.proofs.Values.{same-value}
-use Rattle.number.proofs.Order.{eq-comm, not-lt, le-of-not-lt, le-of-lt, le-of-eq, le-refl, nonneg-not-nan, nonneg-is, not-negative, nonneg-above}
-use Rattle.extrema.specs.Extrema.{max, min, larger, Larger, maxFrom, largest, largerFrom}
-use Rattle.extrema.proofs.Picks.{pick-is, pick-has, pick-left, eq-number, lt-numbers}
+use Rattle.number.proofs.Order.{eq-comm, not-lt, le-of-not-lt, le-refl, nonneg-not-nan, nonneg-is, not-negative, nonneg-above}
+use Rattle.extrema.specs.Extrema.{max, min, larger, Larger, maxFrom, largest}
+use Rattle.extrema.proofs.Picks.{pick-has, eq-number, lt-numbers}
 
 no-lt-nan : (x y : Float) → isNan y ≡ true → lt x y ≡ false
 no-lt-nan x y h = by (lt x y) (lt-numbers x y)
@@ -23,38 +22,6 @@ no-lt-nan x y h = by (lt x y) (lt-numbers x y)
     by false k = refl
 
 -- ---- the larger and the smaller of two values
-
-pub max-is : (x y : Float) → (max x y ≡ x) ⊎ (max x y ≡ y)
-unfolding max
-max-is x y = pick-is _ _ x y
-
-pub min-is : (x y : Float) → (min x y ≡ x) ⊎ (min x y ≡ y)
-unfolding min
-min-is x y = pick-is _ _ x y
-
-pub not-nan-max-left : (x y : Float) → T (not (isNan x)) → T (not (isNan (max x y)))
-unfolding max
-not-nan-max-left x y p = pick-left _ _ x y p
-
-pub not-nan-max-right : (x y : Float) → T (not (isNan y)) → T (not (isNan (max x y)))
-unfolding max
-not-nan-max-right x y q = pick-has _ _ x y (λ z. T (not (isNan z))) q (λ h. lt-numbers y x h .1) (λ h k. eq-number x y (is-true (eq x y) h)) (λ h. q)
-
-pub not-nan-min-left : (x y : Float) → T (not (isNan x)) → T (not (isNan (min x y)))
-unfolding min
-not-nan-min-left x y p = pick-left _ _ x y p
-
-pub not-nan-min-right : (x y : Float) → T (not (isNan y)) → T (not (isNan (min x y)))
-unfolding min
-not-nan-min-right x y q = pick-has _ _ x y (λ z. T (not (isNan z))) q (λ h. lt-numbers x y h .0) (λ h k. eq-number x y (is-true (eq x y) h)) (λ h. q)
-
-pub le-max-left : (x y : Float) → T (not (isNan x)) → T (not (isNan y)) → T (le x (max x y))
-unfolding max
-le-max-left x y p q = pick-has _ _ x y (λ z. T (le x z)) q (λ h. le-refl x p) (λ h k. le-refl x p) (λ h. le-of-not-lt x y p q (is-false (lt y x) h))
-
-pub le-max-right : (x y : Float) → T (not (isNan x)) → T (not (isNan y)) → T (le y (max x y))
-unfolding max
-le-max-right x y p q = pick-has _ _ x y (λ z. T (le y z)) q (le-of-lt y x) (λ h k. le-of-eq y x (rw eq-comm h)) (λ h. le-refl y q)
 
 min-le-number : (x y : Float) → T (not (isNan x)) → T (not (isNan y)) → T (le (min x y) x)
 unfolding min
@@ -68,10 +35,6 @@ min-le-left x y p = by (isNan y) refl
     by : (n : Bool) → isNan y ≡ n → T (le (min x y) x)
     by true e = rw e (le-refl x p)
     by false e = min-le-number x y p (rw e tt)
-
-pub min-le-right : (x y : Float) → T (not (isNan x)) → T (not (isNan y)) → T (le (min x y) y)
-unfolding min
-min-le-right x y p q = pick-has _ _ x y (λ z. T (le z y)) q (le-of-lt x y) (λ h k. le-of-eq x y h) (λ h. le-refl y q)
 
 -- by one comparison, the larger of a value that is clear of the sign and of any other, a NaN too
 pub max-select : (least x : Float) → T (nonneg least) → max least x ≡ cond (lt least x) x least
@@ -94,11 +57,6 @@ nonneg-max x y h = rw (max-select x y h) (by (lt x y) (nonneg-above x y h))
     by : (t : Bool) → (T t → T (nonneg y)) → T (nonneg (cond t y x))
     by true k = k tt
     by false k = h
-
-pub nonneg-max-right : (x y : Float) → T (nonneg y) → T (nonneg (max x y))
-unfolding max
-nonneg-max-right x y h =
-    pick-has _ _ x y (λ z. T (nonneg z)) (nonneg-not-nan y h) (nonneg-above y x h) (λ k l. rw (nonneg-is x (eq-number x y (is-true (eq x y) k))) l) (λ k. h)
 
 pub nonneg-min : (x y : Float) → T (nonneg x) → T (nonneg y) → T (nonneg (min x y))
 unfolding min
@@ -147,7 +105,11 @@ larger-is f low x p q = record {
         by false e = sym e
 
 -- the largest of a list, one comparison each
-pub largest-select : (low : Float) (xs : List Float) → T (nonneg low) → maxFrom low xs ≡ largerFrom low xs
+abbrev largerFrom : Float → List Float → Float
+largerFrom low [] = low
+largerFrom low (x ∷ xs) = largerFrom (larger low x) xs
+
+largest-select : (low : Float) (xs : List Float) → T (nonneg low) → maxFrom low xs ≡ largerFrom low xs
 largest-select low [] n = refl
 largest-select low (x ∷ xs) n = largest-select (max low x) xs (nonneg-max low x n) ∙ ap (λ (y : Float). largerFrom y xs) (max-select low x n)
 

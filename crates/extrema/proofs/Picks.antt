@@ -49,23 +49,6 @@ module _ (ahead sign : Bool) (x y : Float) where
       by false false true false q h k l = l tt
       by false false false s q h k l = l tt
 
-  -- a number on the left keeps the pick one, also beside a NaN
-  pub pick-left : T (not (isNan x)) → T (not (isNan (pick ahead sign x y)))
-  pick-left p = by (isNan y) ahead (eq x y && sign) (λ k. k)
-    where
-      by : (n a e : Bool) → (T (not n) → T (not (isNan y))) → T (not (isNan (cond (n || a || e) x y)))
-      by true a e k = p
-      by false true e k = p
-      by false false true k = p
-      by false false false k = k tt
-
-  pub pick-is : (pick ahead sign x y ≡ x) ⊎ (pick ahead sign x y ≡ y)
-  pick-is = by (isNan y || ahead || (eq x y && sign))
-    where
-      by : (t : Bool) → (cond t x y ≡ x) ⊎ (cond t x y ≡ y)
-      by true = inl refl
-      by false = inr refl
-
 -- ---- what is below a value, above it or equal to it is a number
 
 pub eq-number : (x y : Float) → eq x y ≡ true → T (not (isNan x))

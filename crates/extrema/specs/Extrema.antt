@@ -33,8 +33,3 @@ maxFrom low (x ∷ xs) = maxFrom (max low x) xs
 -- `.fold(0.0, f64::max)`
 abbrev pub largest : List Float → Float
 largest xs = maxFrom zero xs
-
--- the same by one comparison each, which serves from a low that is a number with the sign clear
-abbrev pub largerFrom : Float → List Float → Float
-largerFrom low [] = low
-largerFrom low (x ∷ xs) = largerFrom (larger low x) xs

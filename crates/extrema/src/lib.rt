@@ -1,4 +1,5 @@
 // `f64::max` and `f64::min`, with document 01's rule for unlike zeros.
+ghost use mathlib.Core.List.{[], _∷_};
 ghost use mathlib.Core.Path.{_≡_};
 ghost use Rattle.extrema.specs.Extrema as Extrema;
 
@@ -43,4 +44,11 @@ pub fn larger(low: f64, x: f64) -> f64
     ensures { λ r. ⌜ Extrema.Larger low x r ⌝ }
 {
     if low < x { x } else { low }
+}
+
+// The largest of three numbers and +0. A NaN is passed over.
+pub fn largest3(x: f64, y: f64, z: f64) -> f64
+    ensures { λ r. ⌜ r ≡ Extrema.largest (x ∷ y ∷ z ∷ []) ⌝ }
+{
+    larger(larger(larger(0.0, x), y), z)
 }

@@ -4,11 +4,14 @@ use Prim.Native.Nat.{ℕ}
 use mathlib.Core.Bool.{Bool, true, false, not, _&&_, and-true}
 use mathlib.Core.List.{List}
 use borrow.Author.Tests.{not-true, not-false}
-use lib.Ieee.{Float, eq}
+use lib.Dec.{T}
+use lib.Ieee.{Float, ofBits, eq}
 use Rattle.number.specs.Binary64.{_⊗_, zero, epsilon64}
-use Rattle.number.specs.Parts.{positiveFinite}
+use Rattle.number.specs.Parts.{nonneg, positiveFinite}
 use Rattle.number.specs.Vectors.{_!_, tabulate, allZero}
+use Rattle.number.proofs.Order.{nonneg-floor}
 use Rattle.extrema.specs.Extrema.{largest}
+use Rattle.extrema.proofs.Laws.{nonneg-largest}
 use Rattle.gradient_norm.specs.GradientNorm.{scaled, unscaled, scaledGradientInfNorm}
 
 three : (a b c : Bool) → (a && b && c) ≡ (a && (b && (c && true)))
@@ -28,6 +31,10 @@ three-zeros g = three (eq (g ! 0) zero) (eq (g ! 1) zero) (eq (g ! 2) zero)
 pub five-zeros : (g : List Float) → (eq (g ! 0) zero && eq (g ! 1) zero && eq (g ! 2) zero && eq (g ! 3) zero && eq (g ! 4) zero) ≡ allZero (tabulate 5 (λ i. g ! i))
 unfolding allZero
 five-zeros g = five (eq (g ! 0) zero) (eq (g ! 1) zero) (eq (g ! 2) zero) (eq (g ! 3) zero) (eq (g ! 4) zero)
+
+-- the floor of a scale is clear of the sign
+pub floor-clear : (n : ℕ) (d : List Float) (s : Float) → s ≡ largest (tabulate n (λ i. d ! i)) → T (nonneg (epsilon64 ⊗ s))
+floor-clear n d s e = rw e (nonneg-floor _ (nonneg-largest zero (tabulate n (λ i. d ! i)) (unfold nonneg ofBits in tt)))
 
 module _ (n : ℕ) (g d : List Float) (s : Float) (e : s ≡ largest (tabulate n (λ i. d ! i))) (f : Bool) (t : f ≡ positiveFinite s) where
   pub norm-unscaled : (r : Float) (z : Bool) → not f ≡ true → z ≡ allZero (tabulate n (λ i. g ! i)) → r ≡ unscaled z → r ≡ scaledGradientInfNorm n g d

@@ -15,7 +15,7 @@ scaled value curvature floor = abs value ⊘ sqrt (max curvature floor)
 
 -- 0 for an all-zero gradient, else +∞
 unfoldable pub unscaled : Bool → Float
-unscaled allZero = cond allZero zero (inf false)
+unscaled zeros = cond zeros zero (inf false)
 
 -- over n entries: without a scale where the largest diagonal entry is not positive and finite
 unfoldable pub scaledGradientInfNorm : ℕ → List Float → List Float → Float

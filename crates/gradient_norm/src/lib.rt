@@ -6,8 +6,10 @@
 ghost use mathlib.Core.Path.{_≡_};
 ghost use Rattle.gradient_norm.specs.GradientNorm as GradientNorm;
 ghost use Rattle.extrema.specs.Extrema as Extrema;
+ghost use Rattle.number.specs.Parts as Parts;
 ghost use Rattle.number.specs.Vectors.{_!_};
 ghost use mathlib.Core.List.{[], _∷_};
+ghost use lib.Dec.{T};
 
 pub fn point_gradient_norm(gradient: [f64; 3], hessian: [f64; 9]) -> f64
     ensures { λ r. ⌜ r ≡ GradientNorm.pointGradientNorm gradient hessian ⌝ }
@@ -18,16 +20,16 @@ pub fn point_gradient_norm(gradient: [f64; 3], hessian: [f64; 9]) -> f64
 fn norm3(g: [f64; 3], d: [f64; 3]) -> f64
     ensures { λ r. ⌜ r ≡ GradientNorm.scaledGradientInfNorm 3 g d ⌝ }
 {
-    let scale = largest3(d);
+    let scale = extrema::largest3(d[0], d[1], d[2]);
     if !number::positive_finite(scale) {
         return unscaled((g[0] == 0.0) & (g[1] == 0.0) & (g[2] == 0.0));
     }
     let floor = number::EPSILON64 * scale;
-    largest3([
+    extrema::largest3(
         scaled(g[0], d[0], floor),
         scaled(g[1], d[1], floor),
         scaled(g[2], d[2], floor),
-    ])
+    )
 }
 
 pub fn norm5(g: [f64; 5], d: [f64; 5]) -> f64
@@ -57,19 +59,17 @@ fn unscaled(all_zero: bool) -> f64
 }
 
 fn scaled(value: f64, curvature: f64, floor: f64) -> f64
+    requires { ⌜ T (Parts.nonneg floor) ⌝ }
     ensures { λ r. ⌜ r ≡ GradientNorm.scaled value curvature floor ⌝ }
 {
-    number::abs(value) / root::sqrt(extrema::max(curvature, floor))
-}
-
-fn largest3(x: [f64; 3]) -> f64
-    ensures { λ r. ⌜ r ≡ Extrema.largest (x ! 0 ∷ x ! 1 ∷ x ! 2 ∷ []) ⌝ }
-{
-    extrema::max(extrema::max(extrema::max(0.0, x[0]), x[1]), x[2])
+    number::abs(value) / root::sqrt(extrema::larger(floor, curvature))
 }
 
 pub fn largest5(x: [f64; 5]) -> f64
     ensures { λ r. ⌜ r ≡ Extrema.largest (x ! 0 ∷ x ! 1 ∷ x ! 2 ∷ x ! 3 ∷ x ! 4 ∷ []) ⌝ }
 {
-    extrema::max(extrema::max(largest3([x[0], x[1], x[2]]), x[3]), x[4])
+    extrema::max(
+        extrema::max(extrema::largest3(x[0], x[1], x[2]), x[3]),
+        x[4],
+    )
 }

@@ -1,7 +1,7 @@
 -- The laws that callers cite: the order of values, and what keeps a value a number, or clear of the sign. A number here is a value that is no NaN.
 -- Assumes nothing.
 use mathlib.Core.Path.{_≡_, refl, sym, ap, _∙_, subst}
-use mathlib.Core.Bool.{Bool, true, false, not, _&&_, _||_, Bool·beq, cond, true≢false, false≢true, and-false, or-true, or-false}
+use mathlib.Core.Bool.{Bool, true, false, not, _&&_, _||_, Bool·beq, cond, and-false, or-false}
 use mathlib.Core.Logic.{_⊎_, inl, inr, ⊎-elim}
 use Prim.Native.Nat.{ℕ, zero, suc, _+_, _*_, _^_, _<_}
 use native.Mathlib.Nat.{eq-zero-or-pos}
@@ -13,7 +13,7 @@ use lib.Ieee.{Float, nan, inf, fin, Format, binary64, prec, emax, low, unlike, u
 use lib.Ieee.Bits.{is-true, is-false}
 use lib.Ieee.Fits.{round-is}
 use Rattle.number.specs.Binary64.{_⊗_, epsilon64, recip}
-use Rattle.number.specs.Parts.{isFinite, negative, nonneg, abs}
+use Rattle.number.specs.Parts.{isFinite, negative, nonneg}
 
 -- ---- finite values, by sign and size
 
@@ -99,10 +99,6 @@ pub le-of-lt : (x y : Float) → T (lt x y) → T (le x y)
 unfolding le
 le-of-lt x y h = rw (is-true (lt x y) h) tt
 
-pub le-of-eq : (x y : Float) → T (eq x y) → T (le x y)
-unfolding le
-le-of-eq x y h = rw (is-true (eq x y) h, or-true (lt x y)) tt
-
 pub le-total : (x y : Float) → T (not (isNan x)) → T (not (isNan y)) → T (le x y) ⊎ T (le y x)
 le-total x y p q = by (lt x y) refl
   where
@@ -144,16 +140,7 @@ nonneg-above (fin false m e) (inf t) h k = k
 nonneg-above (fin false m e) (fin true n d) h k = k
 nonneg-above (fin false m e) (fin false n d) h k = tt
 
--- ---- the absolute value, and what is rounded
-
-pub nonneg-abs : (x : Float) → T (not (isNan x)) → T (nonneg (abs x))
-unfolding isNan abs nonneg
-nonneg-abs nan p = p
-nonneg-abs (inf s) p = tt
-nonneg-abs (fin s m e) p = tt
-
-pub not-nan-abs : (x : Float) → T (not (isNan x)) → T (not (isNan (abs x)))
-not-nan-abs x p = nonneg-not-nan (abs x) (nonneg-abs x p)
+-- ---- what is rounded
 
 nonneg-odd : (d q k l : ℕ) → T (nonneg (odd d false q k l))
 unfolding odd nonneg
@@ -187,37 +174,15 @@ nonneg-add f (fin false m e) (inf t) h k = k
 nonneg-add f (fin false m e) (fin true n d) h k = absurd k
 nonneg-add f (fin false m e) (fin false n d) h k = nonneg-round f _ _
 
-alike : (s t : Bool) → s ≡ t → unlike s t ≡ false
-alike true true h = refl
-alike true false h = absurd (true≢false h)
-alike false true h = absurd (false≢true h)
-alike false false h = refl
-
--- an infinity times a value that may be zero, as t says
-nonneg-scaled : (t u : Bool) → u ≡ false → T (not (isNan (cond t nan (inf u)))) → T (nonneg (cond t nan (inf u)))
-unfolding isNan nonneg
-nonneg-scaled true u h l = l
-nonneg-scaled false u h l = rw h tt
-
--- a product of like signs is clear of it, unless it is 0 times an infinity
-pub nonneg-mul-like : (f : Format) (x y : Float) → negative x ≡ negative y → T (not (isNan (mul f x y))) → T (nonneg (mul f x y))
-unfolding mul negative nonneg isNan
-nonneg-mul-like f nan y h l = l
-nonneg-mul-like f (inf s) nan h l = l
-nonneg-mul-like f (inf s) (inf t) h l = rw (alike s t h) tt
-nonneg-mul-like f (inf s) (fin t n d) h l = nonneg-scaled (eqb n 0) (unlike s t) (alike s t h) l
-nonneg-mul-like f (fin s m e) nan h l = l
-nonneg-mul-like f (fin s m e) (inf t) h l = nonneg-scaled (eqb m 0) (unlike s t) (alike s t h) l
-nonneg-mul-like f (fin s m e) (fin t n d) h l = rw (alike s t h) (nonneg-round f _ _)
-
-pub nonneg-mul : (f : Format) (x y : Float) → T (nonneg x) → T (nonneg y) → T (not (isNan (mul f x y))) → T (nonneg (mul f x y))
-nonneg-mul f x y h k l = nonneg-mul-like f x y (not-negative x h ∙ sym (not-negative y k)) l
+unlike-self : (s : Bool) → unlike s s ≡ false
+unlike-self true = refl
+unlike-self false = refl
 
 pub nonneg-square : (f : Format) (x : Float) → T (not (isNan x)) → T (nonneg (mul f x x))
 unfolding mul nonneg isNan
 nonneg-square f nan p = absurd p
-nonneg-square f (inf s) p = rw (alike s s refl) tt
-nonneg-square f (fin s m e) p = rw (alike s s refl) (nonneg-round f _ _)
+nonneg-square f (inf s) p = rw (unlike-self s) tt
+nonneg-square f (fin s m e) p = rw (unlike-self s) (nonneg-round f _ _)
 
 -- a factor that is finite and above zero never makes a NaN
 pub nonneg-mul-positive : (f : Format) (m : ℕ) (e : ℤ) (y : Float) → T (nonneg y) → T (nonneg (mul f (fin false (suc m) e) y))
@@ -232,28 +197,6 @@ nonneg-mul-positive f m e (fin false n d) h = nonneg-round f _ _
 pub nonneg-floor : (y : Float) → T (nonneg y) → T (nonneg (epsilon64 ⊗ y))
 unfolding ofBits
 nonneg-floor y h = nonneg-mul-positive binary64 0 (negsuc 45) y h
-
--- a quotient of like signs is clear of it, unless it is 0 ÷ 0 or ∞ ÷ ∞
-pub nonneg-div : (f : Format) (x y : Float) → T (nonneg x) → T (nonneg y) → T (not (isNan (div f x y))) → T (nonneg (div f x y))
-unfolding div nonneg isNan
-nonneg-div f nan y h k l = l
-nonneg-div f (inf true) y h k l = absurd h
-nonneg-div f (inf false) nan h k l = l
-nonneg-div f (inf false) (inf t) h k l = l
-nonneg-div f (inf false) (fin true n d) h k l = absurd k
-nonneg-div f (inf false) (fin false n d) h k l = tt
-nonneg-div f (fin true m e) y h k l = absurd h
-nonneg-div f (fin false m e) nan h k l = l
-nonneg-div f (fin false m e) (inf true) h k l = absurd k
-nonneg-div f (fin false m e) (inf false) h k l = tt
-nonneg-div f (fin false m e) (fin true n d) h k l = absurd k
-nonneg-div f (fin false m e) (fin false n d) h k l = by (eqb n 0) (eqb m 0) l
-  where
-    by : (a b : Bool) → T (not (isNan (cond a (cond b nan (inf false)) (round f false (m * up e * down d) (n * up d * down e)))))
-        → T (nonneg (cond a (cond b nan (inf false)) (round f false (m * up e * down d) (n * up d * down e))))
-    by true true l = l
-    by true false l = tt
-    by false b l = nonneg-round f _ _
 
 pub nonneg-recip : (x : Float) → T (isFinite x) → T (nonneg x) → T (nonneg (recip x))
 unfolding isFinite nonneg div ofBits

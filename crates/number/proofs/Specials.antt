@@ -5,13 +5,17 @@ use Prim.Native.Nat.{ℕ, _*_, _%_, _≤_, _<_}
 use native.Mathlib.Omega.{arith}
 use borrow.Author.Tests.{lt-ltb, le-ltb, le-leb, lt-leb}
 use lib.Dec.{T, leb}
-use lib.Ieee.{Float, nan, inf, fin, Format, neg, ne, fits, isNan, hid, ones, top, ofBits, nanBits, toBits}
+use lib.Ieee.{Float, nan, inf, fin, Format, binary64, neg, div, ne, fits, isNan, hid, ones, top, ofBits, nanBits, toBits}
 use lib.Ieee.Bits.{nanBits-is, nanBits-above, toBits-lt}
 use lib.Ieee.Compare.{differs-from-itself}
 use lib.Ieee.Fits.{inf-fits, neg-fits}
 use Rattle.number.specs.Parts.{negative}
 
 -- ---- a NaN
+
+pub zero-by-zero : div binary64 (ofBits binary64 0) (ofBits binary64 0) ≡ nan
+unfolding div ofBits
+zero-by-zero = refl
 
 -- `x != x` is a test for a NaN
 pub ne-nan : (x : Float) → ne x x ≡ true → x ≡ nan

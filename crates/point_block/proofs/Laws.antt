@@ -2,7 +2,7 @@
 use mathlib.Core.Path.{_≡_, refl}
 use mathlib.Core.Bool.{Bool, true, false, not, cond}
 use borrow.Author.Tests.{not-true, not-false}
-use mathlib.Core.List.{List}
+use mathlib.Core.List.{List, [], _∷_}
 use lib.Dec.{T}
 use lib.Ieee.{Float, lt, ofBits}
 use lib.Ieee.Bits.{is-true}
@@ -11,8 +11,7 @@ use Rattle.number.specs.Binary64.{_⊗_, zero, recip}
 use Rattle.number.specs.Parts.{isFinite, nonneg, positiveFinite}
 use Rattle.number.specs.Vectors.{_!_}
 use Rattle.number.proofs.Order.{nonneg-above, nonneg-recip}
-use Rattle.extrema.specs.Extrema.{larger}
-use Rattle.extrema.proofs.Laws.{largest-three}
+use Rattle.extrema.specs.Extrema.{largest}
 use Rattle.refusal.specs.Rows as Rows
 use Rattle.refusal.specs.Refused.{none, isRowNone, isNone}
 use Rattle.refusal.specs.declared.Refusal.{Refusal}
@@ -28,10 +27,10 @@ use Rattle.point_block.specs.Lone.{factor, refused, loneFactor}
 
 -- ---- the steps
 
-pub norm-is : (m : List Float) (x y z a b c : Float) → x ≡ rowNorm (m ! 0) (m ! 1) (m ! 2) → y ≡ rowNorm (m ! 3) (m ! 4) (m ! 5) → z ≡ rowNorm (m ! 6) (m ! 7) (m ! 8)
-    → a ≡ larger zero x → b ≡ larger a y → c ≡ larger b z → c ≡ infinityNorm m
+pub norm-is : (m : List Float) (x y z n : Float) → x ≡ rowNorm (m ! 0) (m ! 1) (m ! 2) → y ≡ rowNorm (m ! 3) (m ! 4) (m ! 5) → z ≡ rowNorm (m ! 6) (m ! 7) (m ! 8)
+    → n ≡ largest (x ∷ y ∷ z ∷ []) → n ≡ infinityNorm m
 unfolding infinityNorm
-norm-is m x y z a b c ex ey ez ea eb ec = let l = largest-three x y z a b c ea eb ec in cc
+norm-is m x y z n ex ey ez e = rw (e, ex, ey, ez) refl
 
 -- ---- the answers, by the tests that lead to each
 

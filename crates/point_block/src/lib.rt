@@ -138,7 +138,7 @@ fn infinity_norm(m: [f64; 9]) -> f64
     let x = row_norm(m[0], m[1], m[2]);
     let y = row_norm(m[3], m[4], m[5]);
     let z = row_norm(m[6], m[7], m[8]);
-    extrema::larger(extrema::larger(extrema::larger(0.0, x), y), z)
+    extrema::largest3(x, y, z)
 }
 
 fn row_norm(x: f64, y: f64, z: f64) -> f64

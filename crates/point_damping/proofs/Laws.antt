@@ -9,8 +9,8 @@ use Rattle.number.specs.Binary64.{_⊗_, zero, epsilon64}
 use Rattle.number.specs.Parts.{nonneg, positiveFinite}
 use Rattle.number.specs.Vectors.{_!_}
 use Rattle.number.proofs.Order.{nonneg-floor}
-use Rattle.extrema.specs.Extrema.{larger, Larger}
-use Rattle.extrema.proofs.Laws.{largest-three, nonneg-largest}
+use Rattle.extrema.specs.Extrema.{Larger}
+use Rattle.extrema.proofs.Laws.{nonneg-largest}
 use Rattle.refusal.specs.Rows as Rows
 use Rattle.refusal.specs.Refused.{of, none, isNone}
 use Rattle.refusal.specs.declared.Refusal.{Refusal}
@@ -18,10 +18,6 @@ use Rattle.point_damping.specs.declared.DampingDiagonal.{DampingDiagonal
 use Rattle.point_damping.specs.Damping.{largestDiagonal, floored, dampingDiagonal, addedDiagonal, dampedMatrix}
 
 -- ---- the steps
-
-pub largest-diagonal : (m : List Float) (a b c : Float) → a ≡ larger zero (m ! 0) → b ≡ larger a (m ! 4) → c ≡ larger b (m ! 8) → c ≡ largestDiagonal m
-unfolding largestDiagonal
-largest-diagonal m a b c e f g = largest-three (m ! 0) (m ! 4) (m ! 8) a b c e f g
 
 nonneg-scale : (m : List Float) → T (nonneg (largestDiagonal m))
 unfolding largestDiagonal

@@ -69,7 +69,7 @@ pub fn floored_diagonal(m: [f64; 9]) -> [f64; 3]
 fn largest_diagonal(m: [f64; 9]) -> f64
     ensures { λ r. ⌜ r ≡ Damping.largestDiagonal m ⌝ }
 {
-    extrema::larger(extrema::larger(extrema::larger(0.0, m[0]), m[4]), m[8])
+    extrema::largest3(m[0], m[4], m[8])
 }
 
 // The floored diagonal, from the largest entry, which is `scale`.

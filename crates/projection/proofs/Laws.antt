@@ -2,25 +2,24 @@
 use mathlib.Core.Path.{_≡_, refl}
 use mathlib.Core.Bool.{Bool, true, false, not, _&&_, cond}
 use borrow.Author.Tests.{not-true, not-false}
-use mathlib.Core.List.{List}
+use mathlib.Core.List.{List, [], _∷_}
 use lib.Dec.{T}
 use lib.Ieee.{Float, le}
-use Rattle.number.specs.Binary64.{_⊗_, zero, epsilon64}
+use Rattle.number.specs.Binary64.{_⊗_, epsilon64}
 use Rattle.number.specs.Parts.{isFinite, abs}
 use Rattle.number.specs.Vectors.{_!_}
-use Rattle.extrema.specs.Extrema.{larger}
-use Rattle.extrema.proofs.Laws.{largest-three}
+use Rattle.extrema.specs.Extrema.{largest}
 use Rattle.projection.specs.declared.PinholeCamera.{PinholeCamera}
 use Rattle.projection.specs.declared.Projected.{Projected}
 use Rattle.refusal.specs.Refused.{isNone}
 use Rattle.projection.specs.Projection.{inFront, linearized, allFinite, notProjectable, pixelProjection}
 
--- the depth's test, with the largest coordinate found by one comparison each
-pub in-front : (point : List Float) (f g h : Bool) (x y z a b c : Float) → f ≡ isFinite (point ! 0) → g ≡ isFinite (point ! 1) → h ≡ isFinite (point ! 2)
-    → x ≡ abs (point ! 0) → y ≡ abs (point ! 1) → z ≡ abs (point ! 2) → a ≡ larger zero x → b ≡ larger a y → c ≡ larger b z
-    → (f && g && h && not (le (point ! 2) (epsilon64 ⊗ c))) ≡ inFront point
+-- the tests of the coordinates and of the depth
+pub in-front : (point : List Float) (f g h : Bool) (x y z m : Float) → f ≡ isFinite (point ! 0) → g ≡ isFinite (point ! 1) → h ≡ isFinite (point ! 2)
+    → x ≡ abs (point ! 0) → y ≡ abs (point ! 1) → z ≡ abs (point ! 2) → m ≡ largest (x ∷ y ∷ z ∷ [])
+    → (f && g && h && not (le (point ! 2) (epsilon64 ⊗ m))) ≡ inFront point
 unfolding inFront
-in-front point f g h x y z a b c ef eg eh ex ey ez ea eb ec = let m = largest-three x y z a b c ea eb ec in cc
+in-front point f g h x y z m ef eg eh ex ey ez em = rw (em, ef, eg, eh, ex, ey, ez) refl
 
 -- the three answers, by the tests that lead to each
 module _ (camera : PinholeCamera) (observation point : List Float) (f : Bool) (front : f ≡ inFront point) where

@@ -1,7 +1,7 @@
 -- The root's definition is IEEE 754's: for every finite binary64 above zero it gives a binary64, and no other lies as near to the exact root (`sqrt-correct`). Assumes nothing.
 use mathlib.Core.Path.{_≡_, sym, ap, subst, _∙_}
 use mathlib.Core.Bool.{Bool, true, false, not}
-use Prim.Native.Nat.{ℕ, zero, suc, _+_, _-_, _*_, _/_, _^_, _≤_, _<_, zero-le}
+use Prim.Native.Nat.{ℕ, suc, _+_, _-_, _*_, _/_, _^_, _≤_, _<_, zero-le}
 use native.Mathlib.Nat.{le-trans, le-of-eq, lt-of-lt-of-le, lt-of-le-of-lt, mul-assoc, mul-mul-mul-comm, mul-le-mul, mul-le-mul-left, mul-le-mul-right, mul-lt-mul-of-pos-right, lt-of-mul-lt-mul-right, le-of-mul-le-mul-right, mul-pos, two-mul, add-mul, one-mul, mul-one, le-add-left, le-of-lt, le-refl, lt-irrefl, lt-trans, le-of-suc-le-suc, add-comm, add-le-add, add-lt-add-of-lt-of-le, pow-succ', sub-add-cancel}
 use native.Mathlib.Omega.{arith}
 use lib.Dec.{T, leb, ltb, leb→le, nleb→lt, ltb→lt, lit<}

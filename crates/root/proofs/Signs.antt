@@ -1,12 +1,12 @@
--- Roots stay clear of the sign, and are numbers where they do. Assumes nothing.
+-- Roots stay clear of the sign. Assumes nothing.
 use Prim.Native.Nat.{ℕ, zero, suc}
-use mathlib.Core.Bool.{true, false, not}
+use mathlib.Core.Bool.{true, false}
 use lib.Dec.{T}
-use lib.Ieee.{Float, nan, inf, fin, binary64, isNan}
+use lib.Ieee.{Float, nan, inf, fin, binary64}
 use lib.Ieee.Fits.{mul-fits}
 use Rattle.number.specs.Binary64.{_⊕_, _⊗_, negZero}
 use Rattle.number.specs.Parts.{isFinite, nonneg}
-use Rattle.number.proofs.Order.{nonneg-units, nonneg-not-nan, nonneg-add, nonneg-square}
+use Rattle.number.proofs.Order.{nonneg-units, nonneg-add, nonneg-square}
 use Rattle.number.proofs.Monotone.{negZero-add, finite-not-nan}
 use Rattle.root.specs.Root.{nearestRoot, sqrt}
 
@@ -22,9 +22,6 @@ nonneg-sqrt (inf false) h = tt
 nonneg-sqrt (fin s zero e) h = h
 nonneg-sqrt (fin true (suc m) e) h = absurd h
 nonneg-sqrt (fin false (suc m) e) h = nonneg-nearest-root _
-
-pub not-nan-sqrt : (x : Float) → T (nonneg x) → T (not (isNan (sqrt x)))
-not-nan-sqrt x h = nonneg-not-nan (sqrt x) (nonneg-sqrt x h)
 
 pub nonneg-sum-squares : (x y : Float) → T (isFinite x) → T (isFinite y) → T (nonneg (sqrt (negZero ⊕ x ⊗ x ⊕ y ⊗ y)))
 nonneg-sum-squares x y p q =

@@ -1,10 +1,16 @@
 -- `gradient_norm::norm3` meets its contract. Assumes nothing.
 use mathlib.Core.Path.{refl}
-use Rattle.gradient_norm.proofs.Norms.{three-zeros, norm-unscaled, norm-scaled}
+use Rattle.gradient_norm.proofs.Norms.{floor-clear, three-zeros, norm-unscaled, norm-scaled}
 use native.Mathlib.Omega.{arith}
 use borrow.Author.Needs.{needs}
+use lib.Dec.{T}
+use Rattle.number.specs.Binary64.{_⊗_, epsilon64}
+use Rattle.number.specs.Parts.{nonneg}
 use Rattle.gradient_norm.proofs.norm3.Statement.{statement}
 use Rattle.gradient_norm.proofs.norm3.Tie as tie
+
+clear : (c : tie.After-positive-finite) → T (nonneg (epsilon64 ⊗ c .before .largest3 .result))
+clear c = floor-clear 3 (c .before .before .args .t2) _ (c .before .largest3 .ensures)
 
 returns : tie.Need-returns
 returns c =
@@ -23,6 +29,9 @@ pub norm3-spec : {M : Type 1} → statement M
 norm3-spec =
     tie.close
     (tie.spec
+    (λ c. omega arith)
+    (λ c. omega arith)
+    (λ c. omega arith)
     (λ c κs. search needs)
     (λ c κs. search needs)
     (λ c. omega arith)
@@ -32,12 +41,12 @@ norm3-spec =
     returns
     (λ c. omega arith)
     (λ c. omega arith)
-    (λ c κs. search needs)
+    (λ c κs. clear (c .before))
     (λ c. omega arith)
     (λ c. omega arith)
-    (λ c κs. search needs)
+    (λ c κs. clear (c .before .before))
     (λ c. omega arith)
     (λ c. omega arith)
-    (λ c κs. search needs)
+    (λ c κs. clear (c .before .before .before))
     (λ c κs. search needs)
     returns-2)

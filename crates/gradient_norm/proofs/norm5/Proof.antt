@@ -1,10 +1,16 @@
 -- `gradient_norm::norm5` meets its contract. Assumes nothing.
 use mathlib.Core.Path.{refl}
-use Rattle.gradient_norm.proofs.Norms.{five-zeros, norm-unscaled, norm-scaled}
+use Rattle.gradient_norm.proofs.Norms.{floor-clear, five-zeros, norm-unscaled, norm-scaled}
 use native.Mathlib.Omega.{arith}
 use borrow.Author.Needs.{needs}
+use lib.Dec.{T}
+use Rattle.number.specs.Binary64.{_⊗_, epsilon64}
+use Rattle.number.specs.Parts.{nonneg}
 use Rattle.gradient_norm.proofs.norm5.Statement.{statement}
 use Rattle.gradient_norm.proofs.norm5.Tie as tie
+
+clear : (c : tie.After-positive-finite) → T (nonneg (epsilon64 ⊗ c .before .largest5 .result))
+clear c = floor-clear 5 (c .before .before .args .t2) _ (c .before .largest5 .ensures)
 
 returns : tie.Need-returns
 returns c =
@@ -36,18 +42,18 @@ norm5-spec =
     returns
     (λ c. omega arith)
     (λ c. omega arith)
-    (λ c κs. search needs)
+    (λ c κs. clear (c .before))
     (λ c. omega arith)
     (λ c. omega arith)
-    (λ c κs. search needs)
+    (λ c κs. clear (c .before .before))
     (λ c. omega arith)
     (λ c. omega arith)
-    (λ c κs. search needs)
+    (λ c κs. clear (c .before .before .before))
     (λ c. omega arith)
     (λ c. omega arith)
-    (λ c κs. search needs)
+    (λ c κs. clear (c .before .before .before .before))
     (λ c. omega arith)
     (λ c. omega arith)
-    (λ c κs. search needs)
+    (λ c κs. clear (c .before .before .before .before .before))
     (λ c κs. search needs)
     returns-2)

@@ -5,7 +5,7 @@ use Rattle.gradient_norm.proofs.scaled.Statement.{statement}
 use Rattle.gradient_norm.proofs.scaled.Tie as tie
 
 returns : tie.Need-returns
-returns c = rw (c .sqrt .ensures, c .before .max .ensures, c .before .before .abs .ensures) refl
+returns c = rw (c .sqrt .ensures, c .before .larger .ensures .second (c .before .before .before .pre), c .before .before .abs .ensures) refl
 
 pub scaled-spec : {M : Type 1} → statement M
 scaled-spec =

@@ -7,9 +7,8 @@ use Rattle.point_block.proofs.infinity_norm.Tie as tie
 
 returns : tie.Need-returns
 returns c =
-    let n = c .before .before .before in
-    norm-is _ _ _ _ _ _ _ (n .before .before .row-norm .ensures) (n .before .row-norm2 .ensures) (n .row-norm3 .ensures) (c .before .before .larger .ensures .is) (c .before .larger2 .ensures .is)
-    (c .larger3 .ensures .is)
+    let n = c .before in
+    norm-is _ _ _ _ _ (n .before .before .row-norm .ensures) (n .before .row-norm2 .ensures) (n .row-norm3 .ensures) (c .largest3 .ensures)
 
 pub infinity-norm-spec : {M : Type 1} → statement M
 infinity-norm-spec =
@@ -26,8 +25,6 @@ infinity-norm-spec =
     (λ c. omega arith)
     (λ c. omega arith)
     (λ c. omega arith)
-    (λ c κs. search needs)
-    (λ c κs. search needs)
     (λ c κs. search needs)
     (λ c κs. search needs)
     returns)

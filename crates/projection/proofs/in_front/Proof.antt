@@ -7,15 +7,12 @@ use Rattle.projection.proofs.in_front.Tie as tie
 
 returns : tie.Need-returns
 returns c =
-    let l = c .before in
-    let a = l .before .before in
+    let a = c .before in
     let f = a .before .before .before in
-    in-front _ _ _ _ _ _ _ _ _ _ (f .before .before .is-finite .ensures) (f .before .is-finite2 .ensures) (f .is-finite3 .ensures) (a .before .before .abs .ensures)
+    in-front _ _ _ _ _ _ _ _ (f .before .before .is-finite .ensures) (f .before .is-finite2 .ensures) (f .is-finite3 .ensures) (a .before .before .abs .ensures)
     (a .before .abs2 .ensures)
     (a .abs3 .ensures)
-    (l .before .larger .ensures .is)
-    (l .larger2 .ensures .is)
-    (c .larger3 .ensures .is)
+    (c .largest3 .ensures)
 
 pub in-front-spec : {M : Type 1} → statement M
 in-front-spec =
@@ -32,8 +29,6 @@ in-front-spec =
     (λ c. omega arith)
     (λ c κs. search needs)
     (λ c. omega arith)
-    (λ c κs. search needs)
-    (λ c κs. search needs)
     (λ c κs. search needs)
     (λ c κs. search needs)
     (λ c. omega arith)
