@@ -177,6 +177,66 @@ wholeRoot-is (suc d) n h = go (wholeRoot d (n / 4)) (wholeRoot-is d (n / 4) (div
             let r = w .reached in
             record { reached = let k = twice-square q in omega arith; next = rw add-one (g tt) }
 
+-- ---- near a power of four: from P or from 2 * P the root lies half as far as what it is taken of
+
+near-over : (P j h : ℕ) → 2 * h ≤ j → j ≤ 2 * h + 1 → h * h < P → NearestRoot ((P + j) * P) (P + h)
+near-over P j h l u s =
+    let e : (P + h) * (P + h) ≡ P * P + h * P + h * P + h * h = simp sorted in
+    let f : (P + j) * P ≡ P * P + j * P = add-mul P j P in
+    let a : 2 * h * P ≤ j * P = mul-le-mul-right P l in
+    let b : j * P ≤ (2 * h + 1) * P = mul-le-mul-right P u in
+    let c : (2 * h + 1) * P ≡ 2 * h * P + 1 * P = add-mul (2 * h) 1 P in
+    let d : 2 * h * P ≡ 2 * (h * P) = mul-assoc 2 h P in
+    record { low = omega arith; high = omega arith }
+
+square-under : (P g r : ℕ) → r + g ≡ 2 * P → r * r + 4 * (g * P) ≡ 4 * (P * P) + g * g
+square-under P g r p =
+    let e : (r + g) * (r + g) ≡ r * r + r * g + r * g + g * g = simp sorted in
+    let f : (r + g) * g ≡ r * g + g * g = add-mul r g g in
+    let e′ : 2 * P * (2 * P) ≡ r * r + r * g + r * g + g * g = subst (λ (x : ℕ). x * x ≡ r * r + r * g + r * g + g * g) p e in
+    let f′ : 2 * P * g ≡ r * g + g * g = subst (λ (x : ℕ). x * g ≡ r * g + g * g) p f in
+    let c : 2 * P * g ≡ 2 * (g * P) = simp sorted in
+    let t = twice-square P in
+    omega arith
+
+self-square : (g : ℕ) → g ≤ g * g
+self-square zero = omega arith
+self-square (suc g) = let m : suc g * 1 ≤ suc g * suc g = mul-le-mul-left (suc g) (omega arith) in omega arith
+
+near-under : (P d j g r : ℕ) → d + j ≡ 4 * P → r + g ≡ 2 * P → 4 * g ≤ j + 2 → j ≤ 4 * g + 1 → g * g + g < P → NearestRoot (d * P) r
+near-under P d j g r q p l u s = by (square-under P g r p) whole lower upper
+  where
+    scaled : 4 * g * P ≡ 4 * (g * P)
+    scaled = mul-assoc 4 g P
+
+    whole : d * P + j * P ≡ 4 * (P * P)
+    whole = sym (add-mul d j P) ∙ (rw q (mul-assoc 4 P P))
+
+    lower : 4 * (g * P) ≤ j * P + 2 * P
+    lower = let m : 4 * g * P ≤ (j + 2) * P = mul-le-mul-right P l in let e = add-mul j 2 P in let f = scaled in omega arith
+
+    upper : j * P ≤ 4 * (g * P) + P
+    upper = let m : j * P ≤ (4 * g + 1) * P = mul-le-mul-right P u in let e : (4 * g + 1) * P ≡ 4 * g * P + 1 * P = add-mul (4 * g) 1 P in let f = scaled in omega arith
+
+    by : r * r + 4 * (g * P) ≡ 4 * (P * P) + g * g → d * P + j * P ≡ 4 * (P * P) → 4 * (g * P) ≤ j * P + 2 * P → j * P ≤ 4 * (g * P) + P → NearestRoot (d * P) r
+    by e w a b = record { low = omega arith; high = let k = self-square g in omega arith }
+
+small-square : (h : ℕ) → h ≤ 2 ^ 25 → h * h ≤ 2 ^ 50
+small-square h l = mul-le-mul l l
+
+pub root-over : (d : ℕ) → 2 ^ 52 ≤ d → d < 2 ^ 52 + 2 ^ 26 → NearestRoot (d * 2 ^ 52) (2 ^ 52 + (d - 2 ^ 52) / 2)
+root-over d l h =
+    let k = (d - 2 ^ 52) / 2 in
+    let s = small-square k (omega arith) in
+    let e : 2 ^ 52 + (d - 2 ^ 52) ≡ d = omega arith in
+    subst (λ (x : ℕ). NearestRoot (x * 2 ^ 52) (2 ^ 52 + k)) e (near-over (2 ^ 52) (d - 2 ^ 52) k (omega arith) (omega arith) (omega arith))
+
+pub root-under : (d : ℕ) → 2 ^ 54 - 2 ^ 26 < d → d < 2 ^ 54 → NearestRoot (d * 2 ^ 52) (2 ^ 53 - (2 ^ 54 - d + 2) / 4)
+root-under d l h =
+    let g = (2 ^ 54 - d + 2) / 4 in
+    let s = small-square g (omega arith) in
+    near-under (2 ^ 52) d (2 ^ 54 - d) g (2 ^ 53 - g) (omega arith) (omega arith) (omega arith) (omega arith) (omega arith)
+
 -- the square of twice the middle between q and q + 1
 pub middle-square : (q : ℕ) → (2 * q + 1) * (2 * q + 1) ≡ 4 * (q * q) + 4 * q + 1
 middle-square q = next-square (2 * q) ∙ (let e = twice-square q in omega arith)

@@ -1,8 +1,9 @@
 // The square root of IEEE 754, from bits and whole numbers alone. The digits of x are scaled to a d
 // of 53 or 54 of them with an even power of two beside it; the root of d * 2 ^ 52 to the nearest whole
 // number then has the 53 digits of the result.
+ghost use mathlib.Core.Logic.{_⊎_};
 ghost use mathlib.Core.Path.{_≡_};
-ghost use Prim.Native.Nat.{_+_, _*_, _^_, _≤_, _<_};
+ghost use Prim.Native.Nat.{_+_, _-_, _*_, _^_, _≤_, _<_};
 ghost use lib.Ieee as Ieee;
 ghost use lib.Ieee.{binary64};
 ghost use Rattle.root.specs.Root as Root;
@@ -13,6 +14,9 @@ const INFINITY: u64 = 0x7ff0_0000_0000_0000;
 
 // 2 ^ 52: what the leading digit and the exponent's field count for
 const LEAD: u64 = 0x10_0000_0000_0000;
+
+// 2 ^ 26: how near to such an end d has to be
+const NEAR: u64 = 0x400_0000;
 
 // `f64::sqrt`. A zero of either sign, +∞ and NaN are their own roots.
 pub fn sqrt(x: f64) -> f64
@@ -50,9 +54,33 @@ fn root_of_digits(m: u64, power: u64) -> u64
     power / 2 * LEAD + nearest_root(d)
 }
 
-// The whole number nearest to the root of d * 2 ^ 52: its upper digits are the root of d, and the
-// lower ones come from the remainder by one division.
+// The whole number nearest to the root of d * 2 ^ 52. Near one, where the first pivot of every factor
+// lies, it takes no division.
 fn nearest_root(d: u64) -> u64
+    requires { ⌜ (2 ^ 52 ≤ d) × (d < 2 ^ 54) ⌝ }
+    ensures { λ r. ⌜ NearestRoot (d * 2 ^ 52) r ⌝ }
+{
+    if (d < LEAD + NEAR) | (4 * LEAD - NEAR < d) {
+        return root_near_one(d);
+    }
+    root_by_parts(d)
+}
+
+// For a d near an end of its range: its root lies half as far, by its size, from 2 ^ 52 or 2 ^ 53 as d
+// does from 2 ^ 52 or 2 ^ 54.
+fn root_near_one(d: u64) -> u64
+    requires { ⌜ (2 ^ 52 ≤ d) × (d < 2 ^ 54) × ((d < 2 ^ 52 + 2 ^ 26) ⊎ (2 ^ 54 - 2 ^ 26 < d)) ⌝ }
+    ensures { λ r. ⌜ NearestRoot (d * 2 ^ 52) r ⌝ }
+{
+    if d < 2 * LEAD {
+        LEAD + (d - LEAD) / 2
+    } else {
+        2 * LEAD - (4 * LEAD - d + 2) / 4
+    }
+}
+
+// The upper digits are the root of d, and the lower ones come from the remainder by one division.
+fn root_by_parts(d: u64) -> u64
     requires { ⌜ (2 ^ 52 ≤ d) × (d < 2 ^ 54) ⌝ }
     ensures { λ r. ⌜ NearestRoot (d * 2 ^ 52) r ⌝ }
 {
