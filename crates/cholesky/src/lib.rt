@@ -128,15 +128,15 @@ fn good_pivots(c: Factor) -> bool
 fn inverse_of(l: Lower, s: Scale) -> [f64; 6]
     ensures { λ r. ⌜ r ≡ Cholesky.inverseOf l s ⌝ }
 {
-    let m00 = 1.0 / l.e00;
-    let m11 = 1.0 / l.e11;
-    let m22 = 1.0 / l.e22;
+    let m00 = number::recip(l.e00);
+    let m11 = number::recip(l.e11);
+    let m22 = number::recip(l.e22);
     let m10 = -l.e10 * m00 * m11;
     let m21 = -l.e21 * m11 * m22;
     let m20 = -(l.e20 * m00 + l.e21 * m10) * m22;
-    let d0 = 1.0 / s.s0;
-    let d1 = 1.0 / s.s1;
-    let d2 = 1.0 / s.s2;
+    let d0 = number::recip(s.s0);
+    let d1 = number::recip(s.s1);
+    let d2 = number::recip(s.s2);
     [
         (m00 * m00 + m10 * m10 + m20 * m20) * (d0 * d0),
         (m11 * m10 + m21 * m20) * (d1 * d0),
