@@ -36,7 +36,7 @@ pointLines p (suc n) = pointLines p n ++ pointLine n (letter (blockAt p n) (p .d
 unfoldable pub linesOf : List ℕ → ReducedSystem → List ℕ
 linesOf r s = runLine (pointFields r) (damping r) ++ pointLines (run r) (pointFields r) ++ sumLine s
 
--- Rows 14 and 15, then the checks of the run. Of these rows 1 and 2 cannot come up: the lists are made with as many numbers as the point fields ask for, and a record within `maxRecord` has 512 points at most.
+-- Rows 14 and 15, then the checks of the run. Of these rows 1 and 2 cannot come up (`checks-from-row-3`): the lists are made with as many numbers as the point fields ask for, and a record within `maxRecord` has 512 points at most.
 unfoldable pub refused : List ℕ → Refusal
 refused r = orElse (Form.refused r) (Checks.refused (run r))
 
