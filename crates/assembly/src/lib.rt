@@ -94,7 +94,7 @@ fn damped_system(
 }
 
 // The block of a correspondence
-fn block_of(rig: Rig, correspondence: Correspondence) -> LocalLinearization
+pub fn block_of(rig: Rig, correspondence: Correspondence) -> LocalLinearization
     ensures { λ r. ⌜ r ≡ Assembly.blockOf rig correspondence ⌝ }
 {
     let camera1 = rig.camera1;

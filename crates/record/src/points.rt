@@ -43,13 +43,5 @@ pub(crate) fn block_at(record: &[u8], rig: Rig, i: usize) -> LocalLinearization
     requires { ⌜ (i < Fields.pointFields (now «record»)) × Form.Formed (now «record») ⌝ }
     ensures { λ r. ⌜ r ≡ Assembly.blockOf rig (Run.correspondenceOf (now («record» .entry)) i) ⌝ }
 {
-    let camera1 = rig.camera1;
-    let camera2 = rig.camera2;
-    let pose = rig.pose;
-    linearization::linearize_point(
-        camera1,
-        camera2,
-        pose,
-        run::correspondence_at(record, i as u32),
-    )
+    assembly::block_of(rig, run::correspondence_at(record, i as u32))
 }

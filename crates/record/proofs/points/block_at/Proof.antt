@@ -8,10 +8,7 @@ use Rattle.record.proofs.points.block_at.Statement.{statement}
 use Rattle.record.proofs.points.block_at.Tie as tie
 
 returns : tie.Need-returns
-unfolding blockOf
-returns c =
-    let read = c .before in
-    c .linearize-point .ensures ∙ ap (λ (x : Correspondence). blockOf (read .before .before .before .before .before .args .rig) x) (read .correspondence-at .ensures)
+returns c = c .block-of .ensures ∙ ap (λ (x : Correspondence). blockOf (c .before .before .before .args .rig) x) (c .before .correspondence-at .ensures)
 
 pub block-at-spec : {M : Type 1} → statement M
 block-at-spec =
