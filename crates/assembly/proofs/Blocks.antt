@@ -14,6 +14,8 @@ use Rattle.number.specs.Vectors.{allFinite}
 use Rattle.point_damping.specs.Damping.{goodDamping}
 use Rattle.pose_damping.specs.PoseDamping.{dampedHessian}
 use Rattle.reduced_system.specs.Model.{newSystem, withHessian, finishDamping, isValid}
+use Rattle.checks.specs.Checks.{maxPoints}
+use Rattle.schur.specs.System.{maxBlocks}
 use Rattle.schur.specs.Claim.{WeakCount}
 use Rattle.schur.specs.Calls.{Inputs, Call, atDamping, after, factors, smallRcond, atZero, blocksIn, all, filter}
 use Rattle.linearization.specs.declared.linearize.LocalLinearization.{LocalLinearization}
@@ -41,12 +43,12 @@ unfolding systemTo blockOf
 after-calls p i zero = ap (λ (k : ℕ). systemTo p k) (sym (add-zero i))
 after-calls p i (suc n) = after-calls p (suc i) n ∙ ap (λ (k : ℕ). systemTo p k) (suc-add i n ∙ sym (add-suc i n))
 
-all-taken : (p : Problem) (m i n : ℕ) → m + n ≤ 65535 → blocksIn m (calls p i n) ≡ blocks p i n
+all-taken : (p : Problem) (m i n : ℕ) → m + n ≤ maxBlocks → blocksIn m (calls p i n) ≡ blocks p i n
 unfolding blockOf
 all-taken p m i zero h = refl
 all-taken p m i (suc n) h =
-    let k : m < 65535 = omega arith in
-    rw (lt-ltb m 65535 k) (ap (λ (l : List LocalLinearization). blockAt p i ∷ l) (all-taken p (suc m) (suc i) n (omega arith)))
+    let k : m < maxBlocks = omega arith in
+    rw (lt-ltb m maxBlocks k) (ap (λ (l : List LocalLinearization). blockAt p i ∷ l) (all-taken p (suc m) (suc i) n (omega arith)))
 
 -- what holds of every block holds of each
 each : (p : Problem) (good : LocalLinearization → Bool) (i n j : ℕ) → all good (blocks p i n) ≡ true → j < n → good (blockAt p (i + j)) ≡ true
@@ -68,7 +70,7 @@ unfolding finishDamping
 damped s d g = rw (is-true (goodDamping d) g) refl
 
 -- every block of a problem that has a valid system factors
-module _ (p : Problem) (good : T (goodDamping (p .damping))) (h : count p ≤ 65535) (valid : isValid (reducedSystem p) ≡ true) where
+module _ (p : Problem) (good : T (goodDamping (p .damping))) (h : count p ≤ maxPoints) (valid : isValid (reducedSystem p) ≡ true) where
   all-factor : all (factors (p .damping)) (blocks p 0 (count p)) ≡ true
   unfolding reducedSystem systemTo withHessian
   all-factor =
@@ -98,7 +100,7 @@ apart f s (b ∷ bs) = by (f b) (s b) (apart f s bs)
     by true false h = omega arith
     by false y h = omega arith
 
-module _ (p : Problem) (good : T (goodDamping (p .damping))) (h : count p ≤ 65535) where
+module _ (p : Problem) (good : T (goodDamping (p .damping))) (h : count p ≤ maxPoints) where
   same-weak : reducedSystem p .«weak_point_count» ≡ systemTo p (count p) .«weak_point_count»
   unfolding reducedSystem withHessian
   same-weak = ap (λ (t : ReducedSystem). t .«weak_point_count») (damped (systemTo p (count p)) (p .damping) good)

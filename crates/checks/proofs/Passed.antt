@@ -16,15 +16,15 @@ pub both-hold : (x y : Bool) → (x && y) ≡ true → (x ≡ true) × (y ≡ tr
 both-hold true y e = (refl, e)
 both-hold false y e = absurd (true≢false (sym e))
 
-pub all-fit : (p v w n : ℕ) (x y z : Bool) → x ≡ eqb p (3 * n) → y ≡ eqb v (2 * n) → z ≡ eqb w (2 * n) → not (x && y && z) ≡ false → not (leb n 65535) ≡ false
-    → (p ≡ 3 * n) × (v ≡ 2 * n) × (w ≡ 2 * n) × (n ≤ 65535)
+pub all-fit : (p v w n : ℕ) (x y z : Bool) → x ≡ eqb p (3 * n) → y ≡ eqb v (2 * n) → z ≡ eqb w (2 * n) → not (x && y && z) ≡ false → not (leb n maxPoints) ≡ false
+    → (p ≡ 3 * n) × (v ≡ 2 * n) × (w ≡ 2 * n) × (n ≤ maxPoints)
 all-fit p v w n x y z e f g t h =
     let one = both-hold (x && y) z (not-false (x && y && z) t) in
     let two = both-hold x y (one .0) in (
       eqb-true p (3 * n) (sym e ∙ two .0),
       eqb-true v (2 * n) (sym f ∙ two .1),
       eqb-true w (2 * n) (sym g ∙ one .1),
-      leb-true n 65535 (not-false (leb n 65535) h),
+      leb-true n maxPoints (not-false (leb n maxPoints) h),
     )
 
 -- what a problem is that rows 1 to 9 let through

@@ -15,6 +15,7 @@ use Rattle.reduced_system.specs.Model.{isValid}
 use Rattle.schur.specs.Calls.{factors}
 use Rattle.point_step.specs.PointStep.{stepped, stepOfTerms, pointStep}
 use Rattle.correspondences.specs.Problem.{Problem, count}
+use Rattle.checks.specs.Checks.{maxPoints}
 use Rattle.assembly.specs.Assembly.{blockAt, reducedSystem}
 use Rattle.assembly.proofs.Blocks.{block-factors}
 use Rattle.point_steps.specs.PointSteps.{pointStepOf, stepAt}
@@ -23,6 +24,6 @@ steps : (b : LocalLinearization) (d : Float) (s : List Float) → T (goodDamping
 unfolding pointStep stepOfTerms pointTerms stepped factors
 steps b d s g e = rw (is-true (goodDamping d) g, sym (lone-factors (b .«point_hessian») d g) ∙ e) refl
 
-pub no-step-refused : (p : Problem) → T (goodDamping (p .damping)) → count p ≤ 65535 → isValid (reducedSystem p) ≡ true → (i : ℕ) → i < count p → (s : List Float) → stepAt p s i .refusal ≡ none
+pub no-step-refused : (p : Problem) → T (goodDamping (p .damping)) → count p ≤ maxPoints → isValid (reducedSystem p) ≡ true → (i : ℕ) → i < count p → (s : List Float) → stepAt p s i .refusal ≡ none
 unfolding pointStepOf
 no-step-refused p good h valid i k s = steps (blockAt p i) (p .damping) s good (block-factors p good h valid i k)
