@@ -17,7 +17,7 @@ use Rattle.assembly.specs.declared.Reduced.{Reduced}
 
 -- the block of a correspondence
 unfoldable pub blockOf : Rig → Correspondence → LocalLinearization
-blockOf h correspondence = linearizePoint (h .camera1) (h .camera2) (h .pose) correspondence
+blockOf rig correspondence = linearizePoint (rig .camera1) (rig .camera2) (rig .pose) correspondence
 
 abbrev pub blockAt : Problem → ℕ → LocalLinearization
 blockAt p i = blockOf (p .rig) (correspondenceAt (p .points) (p .view1) (p .view2) (p .deviations) i)

@@ -52,16 +52,16 @@ observationRefused number view i = unless (allFinite (pair view i)) (at Rows.obs
 
 -- row 9 for one view of a point, then for two views from view 1 on
 abbrev pub viewRefused : Rig → List Float → List Float → List Float → ℕ → ℕ → Refusal
-viewRefused h points view1 view2 i view =
-    unless (isNone (project h view (observation view1 view2 view i) (triple points i) .refusal)) (at Rows.projection view i)
+viewRefused rig points view1 view2 i view =
+    unless (isNone (project rig view (observation view1 view2 view i) (triple points i) .refusal)) (at Rows.projection view i)
 
 abbrev pub projectionRefused : Rig → List Float → List Float → List Float → ℕ → Refusal
-projectionRefused h points view1 view2 i = first (viewRefused h points view1 view2 i) 1 2
+projectionRefused rig points view1 view2 i = first (viewRefused rig points view1 view2 i) 1 2
 
 -- rows 8 and 9: all of view 1, then view 2; then both views of a point before the next
 unfoldable pub seenRefused : Rig → List Float → List Float → List Float → ℕ → Refusal
-seenRefused h points view1 view2 n =
-    firstOf (first (observationRefused 1 view1) 0 n ∷ first (observationRefused 2 view2) 0 n ∷ first (projectionRefused h points view1 view2) 0 n ∷ [])
+seenRefused rig points view1 view2 n =
+    firstOf (first (observationRefused 1 view1) 0 n ∷ first (observationRefused 2 view2) 0 n ∷ first (projectionRefused rig points view1 view2) 0 n ∷ [])
 
 -- rows 3 to 9
 unfoldable pub valuesRefused : Problem → Refusal

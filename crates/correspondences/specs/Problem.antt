@@ -43,6 +43,6 @@ correspondenceAt points view1 view2 deviations i = record { point = triple point
 
 -- `transform` and `project` of residual.rs: a point as view 1 or 2 sees it
 unfoldable pub project : Rig → ℕ → List Float → List Float → Projected
-project h view seen point =
-    cond (eqb view 1) (pixelProjection (h .camera1) seen point)
-    (pixelProjection (h .camera2) seen (cameraPoint (rotate (h .pose .rotation) point) (h .pose .translation)))
+project rig view seen point =
+    cond (eqb view 1) (pixelProjection (rig .camera1) seen point)
+    (pixelProjection (rig .camera2) seen (cameraPoint (rotate (rig .pose .rotation) point) (rig .pose .translation)))

@@ -1,2 +1,2 @@
--- The derivatives of a point's two views: schur.rs.
+-- The derivatives of a point's second view: schur.rs.
 pub mod Jacobians

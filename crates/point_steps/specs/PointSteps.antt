@@ -17,7 +17,7 @@ use Rattle.pose_step.specs.PoseStep.{squared}
 use Rattle.point_steps.specs.declared.Sums.{Sums}
 
 unfoldable pub pointStepOf : Rig → Correspondence → Float → List Float → PointStep
-pointStepOf h correspondence damping s = pointStep (blockOf h correspondence) damping s
+pointStepOf rig correspondence damping s = pointStep (blockOf rig correspondence) damping s
 
 abbrev pub stepAt : Problem → List Float → ℕ → PointStep
 stepAt p s i = pointStepOf (p .rig) (correspondenceAt (p .points) (p .view1) (p .view2) (p .deviations) i) (p .damping) s

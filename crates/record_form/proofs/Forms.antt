@@ -12,7 +12,7 @@ use Rattle.refusal.specs.Refused.{of, isNone}
 use Rattle.refusal.specs.First.{unless, first}
 use Rattle.refusal.proofs.Scans.{row-refuses, after-none, held, all-none}
 use Rattle.fields.specs.Fields.{byte, pointAt, pointFields, camera1At, camera2At, poseAt, basisAt}
-use Rattle.record_form.specs.Form.{maxRecord, isWhole, fieldRefused, headRefused, refused, Formed}
+use Rattle.record_form.specs.Form.{maxRecord, isWhole, fieldRefused, headerRefused, refused, Formed}
 
 module _ (r : List ℕ) (tag size start : ℕ) where
   pub too-short : not (leb (start + 3 + size) (length r)) ≡ true → false ≡ isWhole r tag size start
@@ -40,7 +40,7 @@ pub formed : (r : List ℕ) → isNone (refused r) ≡ true → Formed r
 unfolding refused
 formed r e =
     let long = after-none (unless (leb (length r) maxRecord) (of Rows.recordTooLong)) _ e in
-    let head = after-none (headRefused r) _ (long .1) in
+    let head = after-none (headerRefused r) _ (long .1) in
     let c1 = after-none (fieldRefused r 1 40 camera1At) _ (head .0) in
     let c2 = after-none (fieldRefused r 2 40 camera2At) _ (c1 .1) in
     let p = after-none (fieldRefused r 3 96 poseAt) _ (c2 .1) in

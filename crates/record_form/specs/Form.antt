@@ -24,8 +24,8 @@ abbrev pub fieldRefused : List ℕ → ℕ → ℕ → ℕ → Refusal
 fieldRefused r tag size start = unless (isWhole r tag size start) (at Rows.recordForm 0 start)
 
 -- row 15 for the five fields before the points
-abbrev pub headRefused : List ℕ → Refusal
-headRefused r =
+abbrev pub headerRefused : List ℕ → Refusal
+headerRefused r =
     firstOf (
     fieldRefused r 1 40 camera1At
     ∷ fieldRefused r 2 40 camera2At
@@ -39,7 +39,7 @@ unfoldable pub refused : List ℕ → Refusal
 refused r =
     firstOf (
     unless (leb (length r) maxRecord) (of Rows.recordTooLong)
-    ∷ headRefused r
+    ∷ headerRefused r
     ∷ first (λ i. fieldRefused r 6 64 (pointAt i)) 0 (pointFields r)
     ∷ [])
 

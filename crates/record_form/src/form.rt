@@ -18,9 +18,9 @@ pub fn refused(record: &[u8]) -> Refusal
     if !(record.len() <= MAX_RECORD) {
         return Refusal::of(refusal::RECORD_TOO_LONG);
     }
-    let head = reader::head_refused(record);
-    if !head.is_none() {
-        return head;
+    let header = reader::header_refused(record);
+    if !header.is_none() {
+        return header;
     }
     points_refused(record)
 }

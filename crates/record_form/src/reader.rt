@@ -32,8 +32,8 @@ pub(crate) fn past<'a>(reader: Reader<'a>, size: usize) -> Reader<'a>
 }
 
 // Row 15 for the five fields before the points, read one after the other
-pub(crate) fn head_refused(record: &[u8]) -> Refusal
-    ensures { λ r. ⌜ r ≡ Form.headRefused (now («record» .entry)) ⌝ }
+pub(crate) fn header_refused(record: &[u8]) -> Refusal
+    ensures { λ r. ⌜ r ≡ Form.headerRefused (now («record» .entry)) ⌝ }
 {
     let camera1 = Reader { record, at: 0 };
     let camera2 = past(camera1, 40);

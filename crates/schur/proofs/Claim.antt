@@ -29,7 +29,7 @@ use Rattle.reduced_system.specs.Model.{newSystem}
 use Rattle.elimination.specs.Elimination.{reducedHessian, reducedGradient, pointReduction}
 use Rattle.block_elimination.specs.BlockElimination.{isZero, notEliminated, eliminated, eliminate}
 use Rattle.schur.specs.System.{maxBlocks, raised, takenWith, takenBy, taken, add}
-use Rattle.schur.specs.Calls.{Inputs, made, Call, atDamping, atRefused, added, results, after, afterBlocks, Tally, factors, smallRcond, hasRoom, takenIn, tally, refusals, blocksIn, all, filter}
+use Rattle.schur.specs.Calls.{Inputs, made, Call, atDamping, atRefused, added, results, after, afterBlocks, Tally, factors, smallRcond, notFull, takenIn, tally, refusals, blocksIn, all, filter}
 use Rattle.linearization.proofs.Costs.{Costs, made-costs}
 use Rattle.schur.specs.Claim.{CallByCall, final, SameEquations, Further, Claim}
 
@@ -43,11 +43,11 @@ unfolding add
 add-bad s b x h = rw h refl
 
 module _ (d : Float) (good : T (goodDamping d)) where
-  add-taken : (s : ReducedSystem) (b : LocalLinearization) → Counts s → hasRoom (s .«block_count») ≡ true → add s b d ≡ record { system = taken s b d; refusal = none }
+  add-taken : (s : ReducedSystem) (b : LocalLinearization) → Counts s → notFull (s .«block_count») ≡ true → add s b d ≡ record { system = taken s b d; refusal = none }
   unfolding add
   add-taken s b c e = rw (is-true (goodDamping d) good, is-true (leb (s .«weak_point_count») (s .«block_count»)) c, e) refl
 
-  add-full : (s : ReducedSystem) (b : LocalLinearization) → Counts s → hasRoom (s .«block_count») ≡ false → add s b d ≡ record { system = s; refusal = of Rows.full }
+  add-full : (s : ReducedSystem) (b : LocalLinearization) → Counts s → notFull (s .«block_count») ≡ false → add s b d ≡ record { system = s; refusal = of Rows.full }
   unfolding add
   add-full s b c e = rw (is-true (goodDamping d) good, is-true (leb (s .«weak_point_count») (s .«block_count»)) c, e) refl
 
@@ -232,7 +232,7 @@ module _ (d : Float) (good : T (goodDamping d)) where
     further = further-refl s k;
   }
 
-  module _ (s : ReducedSystem) (i : Inputs) (k : Sound s) (free : hasRoom (s .«block_count») ≡ true) where
+  module _ (s : ReducedSystem) (i : Inputs) (k : Sound s) (free : notFull (s .«block_count») ≡ true) where
     abbrev b : LocalLinearization
     b = made i
 
@@ -263,8 +263,8 @@ module _ (d : Float) (good : T (goodDamping d)) where
           below : u .«block_count» ≤ s .«block_count»
           below = leb→le (u .«block_count») (s .«block_count») l
 
-          u-free : hasRoom (u .«block_count») ≡ true
-          u-free = is-true (hasRoom (u .«block_count»)) (lt→ltb (u .«block_count») maxBlocks (lt-of-le-of-lt below (ltb→lt (s .«block_count») maxBlocks (rw free tt))))
+          u-free : notFull (u .«block_count») ≡ true
+          u-free = is-true (notFull (u .«block_count»)) (lt→ltb (u .«block_count») maxBlocks (lt-of-le-of-lt below (ltb→lt (s .«block_count») maxBlocks (rw free tt))))
 
           by : (x : Bool) → factors d b ≡ x → SameEquations end (afterBlocks d u (cond x (b ∷ filter (factors d) bs) (filter (factors d) bs)))
           by true e = subst (λ (a : Added). SameEquations end (afterBlocks d (a .system) (filter (factors d) bs))) (sym (add-taken u b c u-free))
@@ -290,9 +290,9 @@ module _ (d : Float) (good : T (goodDamping d)) where
   from : (s : ReducedSystem) (cs : List Call) → Sound s → Rest cs s
   from s [] k = from-none s k
   from s (atRefused i x h ∷ cs) k = rw (add-bad s (made i) x h) (from s cs k)
-  from s (atDamping i ∷ cs) k = by (hasRoom (s .«block_count»)) refl (λ h. from (taken s (made i) d) cs h) (from s cs k)
+  from s (atDamping i ∷ cs) k = by (notFull (s .«block_count»)) refl (λ h. from (taken s (made i) d) cs h) (from s cs k)
     where
-      by : (x : Bool) → hasRoom (s .«block_count») ≡ x → (Sound (taken s (made i) d) → Rest cs (taken s (made i) d)) → Rest cs s
+      by : (x : Bool) → notFull (s .«block_count») ≡ x → (Sound (taken s (made i) d) → Rest cs (taken s (made i) d)) → Rest cs s
           → From s (after d (add s (made i) d .system) cs) (tally d (cond x (takenIn d (tallyOf s) (made i)) (tallyOf s)) cs)
           (cond x (made i ∷ blocksIn (suc (s .«block_count»)) cs) (blocksIn (s .«block_count») cs))
       by true e f g = rw (add-taken s (made i) (k .counts) e)
@@ -303,9 +303,9 @@ module _ (d : Float) (good : T (goodDamping d)) where
   refused-each : (s : ReducedSystem) (cs : List Call) → Sound s → map (λ (r : Added). r .refusal) (results d s cs) ≡ refusals d (tallyOf s) cs
   refused-each s [] k = refl
   refused-each s (atRefused i x h ∷ cs) k = rw (add-bad s (made i) x h) (ap (λ l. of Rows.damping ∷ l) (refused-each s cs k))
-  refused-each s (atDamping i ∷ cs) k = by (hasRoom (s .«block_count»)) refl (λ h. refused-each (taken s (made i) d) cs h) (refused-each s cs k)
+  refused-each s (atDamping i ∷ cs) k = by (notFull (s .«block_count»)) refl (λ h. refused-each (taken s (made i) d) cs h) (refused-each s cs k)
     where
-      by : (x : Bool) → hasRoom (s .«block_count») ≡ x
+      by : (x : Bool) → notFull (s .«block_count») ≡ x
           → (Sound (taken s (made i) d) → map (λ (r : Added). r .refusal) (results d (taken s (made i) d) cs) ≡ refusals d (tallyOf (taken s (made i) d)) cs)
           → map (λ (r : Added). r .refusal) (results d s cs) ≡ refusals d (tallyOf s) cs
           → (add s (made i) d .refusal ∷ map (λ (r : Added). r .refusal) (results d (add s (made i) d .system) cs))

@@ -75,8 +75,8 @@ unfoldable pub smallRcond : Float → LocalLinearization → Bool
 smallRcond d b = le (loneFactor (b .«point_hessian») d .rcond) epsilon192
 
 -- below row 13's block count
-abbrev pub hasRoom : ℕ → Bool
-hasRoom blocks = ltb blocks maxBlocks
+abbrev pub notFull : ℕ → Bool
+notFull blocks = ltb blocks maxBlocks
 
 -- either zero
 abbrev pub atZero : Float → Bool
@@ -93,7 +93,7 @@ takenIn d t b = record {
 }
 
 abbrev pub counted : Float → Tally → Call → Tally
-counted d t (atDamping i) = cond (hasRoom (t .blocks)) (takenIn d t (made i)) t
+counted d t (atDamping i) = cond (notFull (t .blocks)) (takenIn d t (made i)) t
 counted d t (atRefused i x h) = t
 
 abbrev pub tally : Float → Tally → List Call → Tally
@@ -101,7 +101,7 @@ tally d t [] = t
 tally d t (c ∷ cs) = tally d (counted d t c) cs
 
 abbrev pub refusalOf : Tally → Call → Refusal
-refusalOf t (atDamping i) = cond (hasRoom (t .blocks)) none (of Rows.full)
+refusalOf t (atDamping i) = cond (notFull (t .blocks)) none (of Rows.full)
 refusalOf t (atRefused i x h) = of Rows.damping
 
 abbrev pub refusals : Float → Tally → List Call → List Refusal
@@ -112,7 +112,7 @@ refusals d t (c ∷ cs) = refusalOf t c ∷ refusals d (counted d t c) cs
 
 abbrev pub blocksIn : ℕ → List Call → List LocalLinearization
 blocksIn n [] = []
-blocksIn n (atDamping i ∷ cs) = cond (hasRoom n) (made i ∷ blocksIn (suc n) cs) (blocksIn n cs)
+blocksIn n (atDamping i ∷ cs) = cond (notFull n) (made i ∷ blocksIn (suc n) cs) (blocksIn n cs)
 blocksIn n (atRefused i x h ∷ cs) = blocksIn n cs
 
 abbrev pub all : (LocalLinearization → Bool) → List LocalLinearization → Bool

@@ -1,4 +1,4 @@
--- `record_form::reader::head_refused` meets its contract, by a walk of its MIR. A reader is made at the record's beginning and goes past four fields; each of the five readers tests its field, and the first refusal is answered. Of the three functions called only the contracts are used.
+-- `record_form::reader::header_refused` meets its contract, by a walk of its MIR. A reader is made at the record's beginning and goes past four fields; each of the five readers tests its field, and the first refusal is answered. Of the three functions called only the contracts are used.
 -- What a reader owns is needed twice, to go past its field and to test it: a reader is Copy.
 -- Assumes nothing.
 use mathlib.Core.Path.{_≡_, refl, _∙_}
@@ -44,7 +44,7 @@ use Rattle.refusal.specs.First.{firstOf}
 use Rattle.refusal.specs.declared.Refusal.{Refusal}
 use Rattle.refusal.proofs.Refusal as R
 use Rattle.refusal.proofs.Refusal.Laws as R′
-use Rattle.record_form.specs.Form.{fieldRefused, headRefused}
+use Rattle.record_form.specs.Form.{fieldRefused, headerRefused}
 use Rattle.record_form.specs.Reads as Reads
 use Rattle.record_form.specs.declared.reader.Reader.{Reader}
 use Rattle.record_form.proofs.reader.Reader as T
@@ -61,10 +61,10 @@ use Rattle.fields.proofs.first_of as first
 use Rattle.fields.proofs.first_of.Symbol as first-def
 use Rattle.fields.proofs.first_of.Symbol.{name as #first}
 use Rattle.fields.proofs.first_of.Met as first-thm
-use Rattle.record_form.proofs.reader.head_refused.Key.{name as #head}
-use Rattle.record_form.proofs.reader.head_refused as head
-use Rattle.record_form.proofs.reader.head_refused.Statement as stated
-use Rattle.record_form.proofs.reader.head_refused.Code as code
+use Rattle.record_form.proofs.reader.header_refused.Key.{name as #head}
+use Rattle.record_form.proofs.reader.header_refused as head
+use Rattle.record_form.proofs.reader.header_refused.Statement as stated
+use Rattle.record_form.proofs.reader.header_refused.Code as code
 
 -- a reader's type at the function's lifetime
 abbrev B : Lfts 1 → RattleType
@@ -187,7 +187,7 @@ module _ {M : Type 1} (𝓤 : URA M) (H : Heap 𝓤) (A : Atoms 𝓤) (W : Given
   abbrev Post : Val → SProp 𝓤
   Post = walkOf 𝓤 H A head.ended stayed (head.clauses 𝓤 H A mem run) .post (((κ, tt), (q, tt), tt, (s, tt), (v ∷ [], tt)), tt)
 
-  exits : (r : Refusal) (u : Val) → r ≡ headRefused (now s) → ent 𝓤 (⋆ 𝓤 H A (‵ (R.the-row .own r (u ∷ [])) ∷ Tok ∷ ‵ Own ∷ [])) (Post u)
+  exits : (r : Refusal) (u : Val) → r ≡ headerRefused (now s) → ent 𝓤 (⋆ 𝓤 H A (‵ (R.the-row .own r (u ∷ [])) ∷ Tok ∷ ‵ Own ∷ [])) (Post u)
   exits r u e =
       qed W (‵ (R.the-row .own r (u ∷ [])) ∷ Tok ∷ ‵ Own ∷ []) ∵
       suffices ! _ (ends-at 𝓤 H A head.ended stayed (head.clauses 𝓤 H A mem run) W (((κ, tt), (q, tt), tt, (s, tt), (v ∷ [], tt)), tt) u r (tt, tt) (tt, tt)) $ says ! e $
@@ -292,9 +292,9 @@ head-meets 𝓤 H A W mem run 𝓣 known-past known-next known-first =
     walk-meets 𝓤 H A head.ended stayed W (goes-none-slice 𝓤 H A W 1 (0 ∷ []) tt (plain (λ _. u8)) yes, tt) (head.clauses 𝓤 H A mem run) (WpFn 𝓤 H (𝓣 .C) (𝓣 .Λ) code.function) (WpFn-mono 𝓤 H (W .laws) 𝓣 code.function)
     (head-walks 𝓤 H A W mem run (𝓣 .C) (𝓣 .Λ) (fmOf 𝓤 H (W .laws) 𝓣) known-past known-next known-first)
 
-pub head-refused-spec : {M : Type 1} → stated.statement M
+pub header-refused-spec : {M : Type 1} → stated.statement M
 unfolding code.routine tablesOf
-head-refused-spec 𝓤 H 𝓜 𝓖 𝓡 =
+header-refused-spec 𝓤 H 𝓜 𝓖 𝓡 =
     entered 𝓤 H (tripleOf 𝓤 H (𝓖 .A) head.signature (head.spec 𝓤 H (𝓖 .A) (𝓜 .mem) (𝓡 .run)))
     (tables 𝓤 H 𝓜 𝓡 code.env .C) (tables 𝓤 H 𝓜 𝓡 code.env .Λ) #head code.function (code.unfolded 𝓤 H 𝓜 𝓡)
     (head-meets 𝓤 H (𝓖 .A) (givenOf 𝓤 H 𝓜 𝓖) (𝓜 .mem) (𝓡 .run) (tablesOf 𝓤 H 𝓜 (tables 𝓤 H 𝓜 𝓡 code.env))
