@@ -30,7 +30,7 @@ fn diagonal(name: &[u8], a: f64, b: f64, c: f64, damping: f64) {
     if refusal.is_none() {
         show::text(b": rcond");
         show::pattern(number::to_bits(lone.rcond));
-        if lone.rcond <= number::EPSILON192 {
+        if (damping == 0.0) & (lone.rcond <= number::EPSILON192) {
             show::text(b" weak");
         }
     } else {

@@ -1,4 +1,4 @@
-// The figures of the block maker and of the system: document 01's sample plate, and its rows.
+// The figures of the block maker and of the system: document 01's sample, and its rows.
 use linearization::LocalLinearization;
 use projection::PinholeCamera;
 use reduced_system::ReducedSystem;
@@ -6,7 +6,7 @@ use views::Correspondence;
 use views::Pose;
 
 pub fn print() {
-    plate();
+    sample();
     counted(b"add with weak 2 of 1", 2, 1, 0.0);
     counted(b"add with weak 2 of 1, damping -1", 2, 1, -1.0);
     counted(b"add with 65,535 blocks", 0, 65535, 0.0);
@@ -26,8 +26,8 @@ pub fn print() {
     floored();
 }
 
-// The five points of the plate, each with its letter, then the sum
-fn plate() {
+// The five points of the sample, each with its letter, then the sum
+fn sample() {
     let mut system = ReducedSystem::new();
     system = point(system, 0, 0.0, 0.0, 1.0);
     system = point(system, 1, 1.0, 0.0, 0.0);
@@ -36,7 +36,7 @@ fn plate() {
     system = point(system, 4, 0.0, -1.0, 0.0);
     let finished = system.finish_damping(0.0);
     let last = finished.system;
-    show::text(b"plate sum");
+    show::text(b"sample sum");
     show::patterns(&[last.cost, last.squared_residual]);
     show::count(last.weak_point_count as u64);
     if last.is_valid() {
@@ -49,7 +49,7 @@ fn plate() {
 
 fn point(system: ReducedSystem, index: u16, x: f64, y: f64, off: f64) -> ReducedSystem {
     let block = seen(x, y, off);
-    show::text(b"plate p");
+    show::text(b"sample p");
     show::count(index as u64);
     show::text(&[b' ', letters::letter(block, 0.0)]);
     show::end();
