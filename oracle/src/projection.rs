@@ -33,8 +33,3 @@ pub fn pixel_projection(
 pub fn tangent_basis(unit: &[f64; 3]) -> [f64; 6] {
     flat(&original::tangent_basis(unit))
 }
-
-/// `PinholeCamera::is_valid`. Not part of the port; for sorting inputs.
-pub fn camera_is_valid(camera: &Camera) -> bool {
-    pinhole(camera).is_valid()
-}

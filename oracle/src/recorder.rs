@@ -88,7 +88,7 @@ pub(crate) fn end_candidate() {
 }
 
 /// Counts one call of `project` within `candidate_cost`: of four calls for each
-/// point the first two linearise and the last two look at the moved point.
+/// point the first two linearize and the last two look at the moved point.
 pub(crate) fn looks_at_moved_point() -> bool {
     let calls = RECORD.get().candidate_calls;
     update(|record| record.candidate_calls = calls.map(|count| count + 1));

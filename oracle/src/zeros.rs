@@ -5,7 +5,7 @@
 //! new system and no block maker produces (a diagonal entry, a gradient norm or
 //! a smallest rcond of -0):
 //!
-//! - point_block.rs 108, `matrix[c][c].max(floor)`, where the floor underflows;
+//! - point_block.rs 108, `matrix[coordinate][coordinate].max(floor)`, where the floor underflows;
 //! - schur.rs 426, `curvature.max(floor)`, where the floor underflows;
 //! - schur.rs 109 and 159, the running gradient norm;
 //! - schur.rs 123, the running smallest rcond.

@@ -1,7 +1,7 @@
 //! What this compiler makes of the points that Rust leaves open, at run time:
 //! where a sum begins, which zero a maximum gives, and what the operations of
 //! the original that could show it do give. Last, a digest of results over many
-//! seeded inputs, to be the same at every optimisation level.
+//! seeded inputs, to be the same at every optimization level.
 
 use std::hint::black_box;
 
