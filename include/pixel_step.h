@@ -64,17 +64,13 @@ uint64_t pixel_step_pixel_projection(const double *camera, size_t camera_length,
 uint64_t pixel_step_damping_diagonal(const double *matrix, size_t matrix_length,
                                      double *out, size_t out_length);
 
-/* The matrix with damping added. Row 10. matrix (9); out (9) */
+/* The matrix with damping added. Rows 3, 10. matrix (9); out (9) */
 uint64_t pixel_step_damped_matrix(const double *matrix, size_t matrix_length, double damping,
                                   double *out, size_t out_length);
 
 /* The factor of a matrix that is damped already: its inverse, packed 00, 10, 11, 20, 21, 22. Row 10. matrix (9); out (6) */
 uint64_t pixel_step_factor_damped(const double *matrix, size_t matrix_length,
                                   double *out, size_t out_length);
-
-/* The factor at a damping, which is not tested. Row 10. matrix (9); out (6) */
-uint64_t pixel_step_factor(const double *matrix, size_t matrix_length, double damping,
-                           double *out, size_t out_length);
 
 /* The factor at a damping with its reciprocal condition number. Rows 3, 10. matrix (9); out: inverse, rcond (7) */
 uint64_t pixel_step_factor_new(const double *matrix, size_t matrix_length, double damping,

@@ -45,14 +45,6 @@ unsafe extern "C" {
         out_len: usize,
     ) -> u64;
 
-    pub fn pixel_step_factor(
-        matrix: *const f64,
-        matrix_len: usize,
-        damping: f64,
-        out: *mut f64,
-        out_len: usize,
-    ) -> u64;
-
     pub fn pixel_step_factor_new(
         matrix: *const f64,
         matrix_len: usize,

@@ -87,7 +87,7 @@ pub fn damping_diagonal(matrix: &[f64; 9]) -> Result<[f64; 3], Refusal> {
     filled(|out| slices::damping_diagonal(matrix, out))
 }
 
-/// The matrix with damping on its diagonal. Row 10.
+/// The matrix with damping on its diagonal. Rows 3 and 10.
 pub fn damped_matrix(matrix: &[f64; 9], damping: f64) -> Result<[f64; 9], Refusal> {
     filled(|out| slices::damped_matrix(matrix, damping, out))
 }
@@ -95,11 +95,6 @@ pub fn damped_matrix(matrix: &[f64; 9], damping: f64) -> Result<[f64; 9], Refusa
 /// The packed inverse of a matrix that is damped already. Row 10.
 pub fn factor_damped(matrix: &[f64; 9]) -> Result<[f64; 6], Refusal> {
     filled(|out| slices::factor_damped(matrix, out))
-}
-
-/// The packed inverse of the damped matrix, at any damping. Row 10.
-pub fn factor(matrix: &[f64; 9], damping: f64) -> Result<[f64; 6], Refusal> {
-    filled(|out| slices::factor(matrix, damping, out))
 }
 
 /// The lone factor. Rows 3 and 10.

@@ -55,19 +55,6 @@ pub fn factor_damped(matrix: &[f64], out: &mut [f64]) -> u64 {
     }
 }
 
-/// `matrix` 9, `out` 6.
-pub fn factor(matrix: &[f64], damping: f64, out: &mut [f64]) -> u64 {
-    unsafe {
-        ffi::pixel_step_factor(
-            matrix.as_ptr(),
-            matrix.len(),
-            damping,
-            out.as_mut_ptr(),
-            out.len(),
-        )
-    }
-}
-
 /// `matrix` 9, `out` 7.
 pub fn factor_new(matrix: &[f64], damping: f64, out: &mut [f64]) -> u64 {
     unsafe {

@@ -55,7 +55,6 @@ fn factors() {
     let matrix = diagonal([4.0, 1.0, 1.0]);
     let lone = pixel_step::factor_new(&matrix, 0.0).expect("factors");
     assert_eq!(lone.rcond, 0.25);
-    assert_eq!(pixel_step::factor(&matrix, 0.0), Ok(lone.inverse));
     assert_eq!(pixel_step::factor_damped(&matrix), Ok(lone.inverse));
     let solved = pixel_step::factor_solve(&lone.inverse, &[4.0, 3.0, -2.0]);
     assert_eq!(solved, Ok([1.0, 3.0, -2.0]));
@@ -68,7 +67,6 @@ fn factors_that_are_refused() {
     let flat = diagonal([1.0, 1.0, 0.0]);
     assert_eq!(pixel_step::factor_new(&flat, -1.0), Err(row(3)));
     assert_eq!(pixel_step::factor_new(&flat, 0.0), Err(row(10)));
-    assert_eq!(pixel_step::factor(&flat, 0.0), Err(row(10)));
     assert_eq!(pixel_step::factor_damped(&flat), Err(row(10)));
     assert!(pixel_step::factor_new(&flat, 1.0).is_ok());
 }
@@ -82,6 +80,7 @@ fn damping() {
     assert_eq!(damped, Ok(diagonal([2.0, 4.0, floor])));
     assert_eq!(pixel_step::damping_diagonal(&[0.0; 9]), Err(row(10)));
     assert_eq!(pixel_step::damped_matrix(&[0.0; 9], 1.0), Err(row(10)));
+    assert_eq!(pixel_step::damped_matrix(&[0.0; 9], -1.0), Err(row(3)));
 }
 
 #[test]
@@ -103,12 +102,11 @@ fn lengths() {
         slices::damping_diagonal(&nine, &mut room),
         slices::damped_matrix(&nine[..8], 0.0, &mut room),
         slices::factor_damped(&nine, &mut room),
-        slices::factor(&nine, 0.0, &mut room[..5]),
         slices::factor_new(&EMPTY, f64::NAN, &mut room[..7]),
         slices::factor_solve(&six, &five, &mut room[..3]),
         slices::reciprocal_condition_number(&nine, &six, &mut room[..1]),
         slices::solve_positive_definite(&nine, &five, &mut room[..5]),
     ];
-    assert_eq!(codes, [1; 9]);
+    assert_eq!(codes, [1; 8]);
     assert_eq!(room, [7.0; 9]);
 }

@@ -1,9 +1,10 @@
 -- What the calls on matrices answer, and what the memory that they may write holds afterwards: the result where nothing is refused, and what it held before otherwise.
-use mathlib.Core.Bool.{_&&_}
+use mathlib.Core.Bool.{_&&_, cond}
 use mathlib.Core.List.{List, [], _∷_}
 use lib.Ieee.{Float}
 use Rattle.number.specs.Vectors.{_!_}
-use Rattle.refusal.specs.Refused.{none}
+use Rattle.refusal.specs.Rows as Rows
+use Rattle.refusal.specs.Refused.{of, none}
 use Rattle.point_damping.specs.Damping as Damping
 use Rattle.point_block.specs.Factor as Factor
 use Rattle.point_block.specs.Condition as Condition
@@ -23,19 +24,15 @@ dampingDiagonal matrix out =
     let d = Damping.dampingDiagonal matrix in
     answer (long matrix 9 && long out 3) (d .refusal) (d .values) out
 
+-- row 3, then the matrix's own refusal
 unfoldable pub dampedMatrix : List Float → Float → List Float → Answer Float
 dampedMatrix matrix damping out =
     let d = Damping.dampedMatrix matrix damping in
-    answer (long matrix 9 && long out 9) (d .refusal) (d .matrix) out
+    answer (long matrix 9 && long out 9) (cond (Damping.goodDamping damping) (d .refusal) (of Rows.damping)) (d .matrix) out
 
 unfoldable pub factorDamped : List Float → List Float → Answer Float
 factorDamped matrix out =
     let f = Factor.factorDamped matrix in
-    answer (long matrix 9 && long out 6) (f .refusal) (f .inverse) out
-
-unfoldable pub factor : List Float → Float → List Float → Answer Float
-factor matrix damping out =
-    let f = Lone.factor matrix damping in
     answer (long matrix 9 && long out 6) (f .refusal) (f .inverse) out
 
 unfoldable pub loneFactor : List Float → Float → List Float → Answer Float

@@ -20,12 +20,15 @@ pub fn damping_diagonal(matrix: &[f64], out: &mut [f64]) -> u64
     answers::answer(refusal, &values, out)
 }
 
-// out: 9
+// Tests row 3 before the matrix. out: 9
 pub fn damped_matrix(matrix: &[f64], damping: f64, out: &mut [f64]) -> u64
     ensures { λ r. ⌜ Answers.Answered r (now (out .exit)) (Calls.dampedMatrix (now (matrix .entry)) damping (now (out .entry))) ⌝ }
 {
     if !((matrix.len() == 9) & (out.len() == 9)) {
         return answers::lengths();
+    }
+    if !point_damping::good_damping(damping) {
+        return answers::code(Refusal::of(refusal::DAMPING));
     }
     let d = point_damping::damped_matrix(slices::vector9(matrix, 0), damping);
     let refusal = d.refusal;
@@ -41,19 +44,6 @@ pub fn factor_damped(matrix: &[f64], out: &mut [f64]) -> u64
         return answers::lengths();
     }
     let f = PointBlockFactor::factor_damped(slices::vector9(matrix, 0));
-    let refusal = f.refusal;
-    let values = f.inverse;
-    answers::answer(refusal, &values, out)
-}
-
-// out: 6; damping is not tested
-pub fn factor(matrix: &[f64], damping: f64, out: &mut [f64]) -> u64
-    ensures { λ r. ⌜ Answers.Answered r (now (out .exit)) (Calls.factor (now (matrix .entry)) damping (now (out .entry))) ⌝ }
-{
-    if !((matrix.len() == 9) & (out.len() == 6)) {
-        return answers::lengths();
-    }
-    let f = PointBlockFactor::factor(slices::vector9(matrix, 0), damping);
     let refusal = f.refusal;
     let values = f.inverse;
     answers::answer(refusal, &values, out)

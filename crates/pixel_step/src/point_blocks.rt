@@ -26,14 +26,6 @@ pub extern "C" fn pixel_step_factor_damped(matrix: &[f64], out: &mut [f64]) -> u
     matrix_calls::factor_damped(matrix, out)
 }
 
-// out: 6; damping is not tested
-#[no_mangle]
-pub extern "C" fn pixel_step_factor(matrix: &[f64], damping: f64, out: &mut [f64]) -> u64
-    ensures { λ r. ⌜ Answers.Answered r (now (out .exit)) (Calls.factor (now (matrix .entry)) damping (now (out .entry))) ⌝ }
-{
-    matrix_calls::factor(matrix, damping, out)
-}
-
 // The lone factor. out: inverse 6, rcond
 #[no_mangle]
 pub extern "C" fn pixel_step_factor_new(matrix: &[f64], damping: f64, out: &mut [f64]) -> u64

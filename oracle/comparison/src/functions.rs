@@ -22,7 +22,6 @@ functions! {
     damping_diagonal
     damped_matrix
     factor_damped
-    factor
     factor_new
     factor_solve
     reciprocal_condition_number

@@ -1,4 +1,4 @@
-//! `PointBlockFactor::damped_matrix` of point_block.rs, at any damping.
+//! `PointBlockFactor::damped_matrix` of point_block.rs behind row 3.
 
 use oracle::{point_block, zeros};
 use pixel_step::slices;
@@ -10,14 +10,18 @@ use crate::inputs;
 pub const FUNCTION: Function = Function {
     name: "damped_matrix",
     arguments: &[lent("matrix", 9), number("damping"), room(9)],
-    rows: &[10],
+    rows: &[3, 10],
     walk: None,
     generate: |source| Input::of(&[&inputs::matrix(source), &[inputs::damping(source)]]),
     port: |lent, rooms| slices::damped_matrix(lent.numbers(0), lent.number(1), rooms.numbers[0]),
-    oracle: |input| {
-        Answer::or_row(zeros::damped_matrix(&input.numbers(0), input.number(1)), 10)
-    },
-    plain: Some(|input| {
-        Answer::or_row(point_block::damped_matrix(&input.numbers(0), input.number(1)), 10)
-    }),
+    oracle: |input| damped(input, zeros::damped_matrix),
+    plain: Some(|input| damped(input, point_block::damped_matrix)),
 };
+
+fn damped(input: &Input, damped_matrix: fn(&[f64; 9], f64) -> Option<[f64; 9]>) -> Answer {
+    let (matrix, damping) = (input.numbers(0), input.number(1));
+    if !point_block::good_damping(damping) {
+        return Answer::row(3);
+    }
+    Answer::or_row(damped_matrix(&matrix, damping), 10)
+}
