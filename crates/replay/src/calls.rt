@@ -1,13 +1,15 @@
-// The functions that are replayed. A new one is a name and a line here, and in the file of its crate a
-// function of its own and a line in `replay` with its number of inputs.
-use crate::blocks;
-use crate::cases::Case;
+// The calls that are replayed. A new one is a name and a line here, and in the file of its crate a
+// function of its own and a line in `replay` with its numbers of inputs and outputs.
+ghost use lib.ListN.{length};
+ghost use mathlib.Core.Path.{_≡_};
+use crate::matrices;
 use crate::numbers;
-use crate::outcomes::Outcome;
-use crate::projections;
-use crate::solvers;
+use crate::points;
 use crate::steps;
 use crate::systems;
+
+// No call has more outputs.
+pub const MOST: usize = 59;
 
 pub enum Call {
     Sqrt,
@@ -18,53 +20,57 @@ pub enum Call {
     Min,
     ToBits,
     FromBits,
-    PixelProjection,
     DampingDiagonal,
     DampedMatrix,
     FactorDamped,
-    Factor,
     FactorNew,
     FactorSolve,
     ReciprocalConditionNumber,
     SolvePositiveDefinite,
+    PixelProjection,
     LinearizePoint,
+    PointStep,
     SystemNew,
     SystemAdd,
     SystemFinishDamping,
     SystemIsValid,
     SystemGradientNorm,
     SystemPredictedReduction,
-    PointStep,
+    Step,
     LimitPoseStep,
 }
 
-pub fn outcome(call: Call, case: Case) -> Outcome {
+// Makes the call on the inputs x, and answers its code; `out` has room for just its outputs. Counts pass
+// as the numbers whose patterns they are.
+pub fn answer(call: Call, x: &[f64], out: &mut [f64]) -> u64
+    requires { ⌜ length (now x) ≡ 160 ⌝ }
+{
     match call {
-        Call::Sqrt => numbers::sqrt(case),
-        Call::Abs => numbers::abs(case),
-        Call::Recip => numbers::recip(case),
-        Call::IsFinite => numbers::is_finite(case),
-        Call::Max => numbers::max(case),
-        Call::Min => numbers::min(case),
-        Call::ToBits => numbers::to_bits(case),
-        Call::FromBits => numbers::from_bits(case),
-        Call::PixelProjection => projections::pixel_projection(case),
-        Call::DampingDiagonal => blocks::damping_diagonal(case),
-        Call::DampedMatrix => blocks::damped_matrix(case),
-        Call::FactorDamped => blocks::factor_damped(case),
-        Call::Factor => blocks::factor(case),
-        Call::FactorNew => blocks::factor_new(case),
-        Call::FactorSolve => blocks::factor_solve(case),
-        Call::ReciprocalConditionNumber => blocks::reciprocal_condition_number(case),
-        Call::SolvePositiveDefinite => solvers::solve_positive_definite(case),
-        Call::LinearizePoint => systems::linearize_point(case),
-        Call::SystemNew => systems::system_new(case),
-        Call::SystemAdd => systems::system_add(case),
-        Call::SystemFinishDamping => systems::system_finish_damping(case),
-        Call::SystemIsValid => systems::system_is_valid(case),
-        Call::SystemGradientNorm => systems::system_gradient_norm(case),
-        Call::SystemPredictedReduction => systems::system_predicted_reduction(case),
-        Call::PointStep => systems::point_step(case),
-        Call::LimitPoseStep => steps::limit_pose_step(case),
+        Call::Sqrt => numbers::sqrt(x, out),
+        Call::Abs => numbers::abs(x, out),
+        Call::Recip => numbers::recip(x, out),
+        Call::IsFinite => numbers::is_finite(x, out),
+        Call::Max => numbers::max(x, out),
+        Call::Min => numbers::min(x, out),
+        Call::ToBits => numbers::to_bits(x, out),
+        Call::FromBits => numbers::from_bits(x, out),
+        Call::DampingDiagonal => matrices::damping_diagonal(x, out),
+        Call::DampedMatrix => matrices::damped_matrix(x, out),
+        Call::FactorDamped => matrices::factor_damped(x, out),
+        Call::FactorNew => matrices::factor_new(x, out),
+        Call::FactorSolve => matrices::factor_solve(x, out),
+        Call::ReciprocalConditionNumber => matrices::reciprocal_condition_number(x, out),
+        Call::SolvePositiveDefinite => matrices::solve_positive_definite(x, out),
+        Call::PixelProjection => points::pixel_projection(x, out),
+        Call::LinearizePoint => points::linearize_point(x, out),
+        Call::PointStep => points::point_step(x, out),
+        Call::SystemNew => systems::system_new(x, out),
+        Call::SystemAdd => systems::system_add(x, out),
+        Call::SystemFinishDamping => systems::system_finish_damping(x, out),
+        Call::SystemIsValid => systems::system_is_valid(x, out),
+        Call::SystemGradientNorm => systems::system_gradient_norm(x, out),
+        Call::SystemPredictedReduction => systems::system_predicted_reduction(x, out),
+        Call::Step => steps::step(x, out),
+        Call::LimitPoseStep => steps::limit_pose_step(x, out),
     }
 }

@@ -60,22 +60,6 @@ impl Case {
         }
     }
 
-    // The number of the word at i
-    pub(crate) fn number(self, i: usize) -> f64
-        requires { ⌜ i < 160 ⌝ }
-    {
-        let words = self.words;
-        number::from_bits(words[i])
-    }
-
-    // The word at i as a whole number of sixteen bits
-    pub(crate) fn count16(self, i: usize) -> u16
-        requires { ⌜ i < 160 ⌝ }
-    {
-        let words = self.words;
-        (words[i] % 65536) as u16
-    }
-
     // The numbers of all words
     pub(crate) fn numbers(self) -> [f64; WORDS] {
         let words = self.words;
@@ -85,6 +69,44 @@ impl Case {
         }
         values
     }
+
+    // Whether the stored answer is this code, with just these numbers where it is 0
+    pub(crate) fn agrees(self, code: u64, given: &[f64]) -> bool {
+        let words = self.words;
+        let start = std::num::wrapping_add_usize(self.split, 1);
+        if self.refused {
+            return self.count == std::num::wrapping_add_usize(start, 4)
+                && same_refusal(&words, start, code);
+        }
+        code == 0
+            && self.count == std::num::wrapping_add_usize(start, given.len())
+            && same_numbers(&words, start, given)
+    }
+}
+
+// `refused`, number, view, index
+fn same_refusal(words: &[u64; WORDS], start: usize, code: u64) -> bool {
+    if WORDS - 4 < start {
+        return false;
+    }
+    words[start + 1] == code % 256
+        && words[start + 2] == code / 256 % 256
+        && words[start + 3] == code / 65536
+}
+
+fn same_numbers(words: &[u64], start: usize, given: &[f64]) -> bool {
+    if words.len() < start {
+        return false;
+    }
+    if words.len() - start < given.len() {
+        return false;
+    }
+    for i in 0..given.len() {
+        if words[start + i] != number::to_bits(given[i]) {
+            return false;
+        }
+    }
+    true
 }
 
 impl Place {

@@ -1,22 +1,19 @@
 // Replays stored answers. Each line of data/NAME.txt is a call of the original Rust with its answer,
-// made by `oracle/compare --sample`; the proved code has to give the same, bit for bit.
-mod blocks;
+// made by `oracle/compare --sample`; the proved call of the C interface has to give the same, bit for bit.
 mod calls;
 mod cases;
 mod files;
+mod matrices;
 mod numbers;
-mod outcomes;
-mod projections;
-mod solvers;
+mod points;
 mod steps;
 mod systems;
 mod tally;
 
 fn main() {
     numbers::replay();
-    projections::replay();
-    blocks::replay();
-    solvers::replay();
+    matrices::replay();
+    points::replay();
     systems::replay();
     steps::replay();
 }

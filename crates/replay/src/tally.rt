@@ -1,7 +1,15 @@
 // The counts of one file, and what is written of it.
 use crate::calls;
 use crate::calls::Call;
+use crate::calls::MOST;
 use crate::cases::Case;
+
+// A call, and how many words stand on both sides of `=`
+pub struct Form {
+    pub inputs: usize,
+    pub outputs: usize,
+    pub call: Call,
+}
 
 pub struct Tally {
     cases: u64,
@@ -11,7 +19,7 @@ pub struct Tally {
 
 impl Tally {
     // Of every line of the text
-    pub fn of(text: &[u8], name: &[u8], inputs: usize, call: Call) -> Self {
+    pub fn of(text: &[u8], name: &[u8], form: Form) -> Self {
         let mut tally = Self {
             cases: 0,
             refused: 0,
@@ -20,29 +28,39 @@ impl Tally {
         let mut at = 0;
         while at < text.len() {
             let case = Case::read(text, at);
-            tally = tally.with(name, inputs, call, case);
+            tally = tally.with(name, form, case);
             at = case.next;
         }
         tally
     }
 
-    // With one case more. The first three that differ are shown.
-    fn with(mut self, name: &[u8], inputs: usize, call: Call, case: Case) -> Self {
+    // With one case more
+    fn with(self, name: &[u8], form: Form, case: Case) -> Self {
+        let mut out = [0.0; MOST];
+        let outputs = form.outputs % (MOST + 1);
+        self.with_room(name, form, case, &mut out[..outputs])
+    }
+
+    // The same, with room for just the outputs. The first three cases that differ are shown.
+    fn with_room(mut self, name: &[u8], form: Form, case: Case, out: &mut [f64]) -> Self {
         self.cases = std::num::wrapping_add_u64(self.cases, 1);
         if case.refused {
             self.refused = std::num::wrapping_add_u64(self.refused, 1);
         }
-        let outcome = calls::outcome(call, case);
-        if case.formed && case.split == inputs && outcome.agrees(case) {
+        let call = form.call;
+        let x = case.numbers();
+        let code = calls::answer(call, &x, out);
+        if case.formed && case.split == form.inputs && case.agrees(code, out) {
             return self;
         }
         if self.differences < 3 {
             io::write_all(1, name);
-            io::write_all(1, b" line ");
-            io::print_decimal(1, self.cases);
+            io::write_all(1, b" line");
+            show::count(self.cases);
             io::write_all(1, b" gave");
-            outcome.show();
-            io::write_all(1, b"\n");
+            show::count(code);
+            show::patterns(out);
+            show::end();
         }
         self.differences = std::num::wrapping_add_u64(self.differences, 1);
         self
@@ -50,12 +68,11 @@ impl Tally {
 
     pub fn show(self, name: &[u8]) {
         io::write_all(1, name);
-        io::write_all(1, b" ");
-        io::print_decimal(1, self.cases);
-        io::write_all(1, b" cases ");
-        io::print_decimal(1, self.refused);
-        io::write_all(1, b" refused ");
-        io::print_decimal(1, self.differences);
+        show::count(self.cases);
+        io::write_all(1, b" cases");
+        show::count(self.refused);
+        io::write_all(1, b" refused");
+        show::count(self.differences);
         io::write_all(1, b" differences\n");
     }
 }

@@ -15,7 +15,7 @@ use crate::input::Input;
 pub use equations::equations;
 pub use matrices::{inverse, matrix};
 pub use sights::sight;
-pub use steps::{MANY_POINTS, pose_step, problem};
+pub use steps::{MANY_POINTS, five_points, pose_step, problem};
 pub use systems::{MOST_BLOCKS, block, correspondence, system};
 
 /// 64ε: depths and pivots at or below it are refused.

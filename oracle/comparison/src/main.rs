@@ -39,10 +39,10 @@ fn work(options: &Options) -> Result<bool, String> {
     let mut same = true;
     for function in &options.functions {
         match &options.sample {
-            Some(_) if function.is_open() => {
-                println!("{}: no sample, its lines have no one length", function.name)
-            }
-            Some(folder) => sample::write(function, options.seed, options.lines, folder)?,
+            Some(folder) => match functions::sampled(function) {
+                Some(function) => sample::write(function, options.seed, options.lines, folder)?,
+                None => println!("{}: no sample, its lines have no one length", function.name),
+            },
             None => same &= run::run(function, options),
         }
     }

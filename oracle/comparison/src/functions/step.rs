@@ -9,6 +9,7 @@ use pixel_step::{Refusal, slices};
 use crate::function::{Answer, Argument, Function, Kind, count_room, lent, number, open, room};
 use crate::input::Input;
 use crate::inputs;
+use crate::memory::{Lent, Rooms};
 
 pub const FUNCTION: Function = Function {
     name: "step",
@@ -21,28 +22,55 @@ pub const FUNCTION: Function = Function {
         number("damping"),
         open("room", Kind::Room),
         room(12),
-        Argument {
-            name: "weak",
-            ..count_room(1)
-        },
+        WEAK,
     ],
     rows: &[1, 3, 4, 5, 6, 7, 8, 9, 10, 11],
     walk: Some(inputs::MANY_POINTS),
     generate: inputs::problem,
-    port: |lent, rooms| {
-        let [points, view1, view2, deviations, rig] = [0, 1, 2, 3, 4].map(|i| lent.numbers(i));
-        let damping = lent.number(5);
-        let [steps, out] = &mut rooms.numbers[..] else {
-            unreachable!("room for the steps and the numbers");
-        };
-        let weak = &mut *rooms.counts[0];
-        slices::step(
-            points, view1, view2, deviations, rig, damping, steps, out, weak,
-        )
-    },
+    port: step,
     oracle: stepped,
     plain: None,
 };
+
+/// The same with five points, so that each argument has one length: what a sample
+/// has lines of.
+pub const FIVE_POINTS: Function = Function {
+    arguments: &[
+        lent("points", 15),
+        lent("view1", 10),
+        lent("view2", 10),
+        lent("inverse_deviations", 5),
+        lent("rig", 29),
+        number("damping"),
+        Argument {
+            name: "room",
+            ..room(15)
+        },
+        room(12),
+        WEAK,
+    ],
+    rows: &[3, 4, 5, 6, 8, 9, 10, 11],
+    walk: None,
+    generate: inputs::five_points,
+    ..FUNCTION
+};
+
+const WEAK: Argument = Argument {
+    name: "weak",
+    ..count_room(1)
+};
+
+fn step(lent: &Lent<'_>, rooms: &mut Rooms<'_>) -> u64 {
+    let [points, view1, view2, deviations, rig] = [0, 1, 2, 3, 4].map(|i| lent.numbers(i));
+    let damping = lent.number(5);
+    let [steps, out] = &mut rooms.numbers[..] else {
+        unreachable!("room for the steps and the numbers");
+    };
+    let weak = &mut *rooms.counts[0];
+    slices::step(
+        points, view1, view2, deviations, rig, damping, steps, out, weak,
+    )
+}
 
 fn stepped(input: &Input) -> Answer {
     let [points, view1, view2, deviations] = [0, 1, 2, 3].map(|place| input.list(place));

@@ -46,6 +46,17 @@ pub fn problem(source: &mut Source) -> Input {
     input
 }
 
+/// The same with five points and the lengths that belong to them.
+pub fn five_points(source: &mut Source) -> Input {
+    loop {
+        let input = problem(source);
+        let lengths: Vec<_> = input.0.iter().map(Vec::len).collect();
+        if lengths == [15, 10, 10, 5, 29, 1, 15] {
+            return input;
+        }
+    }
+}
+
 /// Mostly few points, now and then up to 600.
 fn points(source: &mut Source) -> usize {
     match source.below(40) {

@@ -7,10 +7,10 @@ use Rattle.replay.proofs.tally.Tally.of.Statement.{statement}
 use Rattle.replay.proofs.tally.Tally.of.Tie as tie
 
 abbrev Inv-loop : tie.InvT-loop
-Inv-loop text name inputs call tally₀ at₀ tally at = Unit {0}
+Inv-loop text name form tally₀ at₀ tally at = Unit {0}
 
 abbrev μ-loop : tie.MeasureT-loop
-μ-loop text name inputs call tally₀ at₀ tally at = length text - at
+μ-loop text name form tally₀ at₀ tally at = length text - at
 
 pub of-spec : {M : Type 1} → statement M
 of-spec =
