@@ -2,13 +2,13 @@
 use mathlib.Core.Path.{_≡_, refl, sym, ap, ap₂, _∙_}
 use mathlib.Core.List.{List, [], _∷_, _++_, append-nil}
 use Prim.Native.Nat.{ℕ, zero, suc, _+_, _≤_, _<_}
-use native.Mathlib.Nat.{zero-add}
+use native.Mathlib.Nat.{zero-add, add-assoc}
 use native.Mathlib.Numerals.{add-one}
 use native.Mathlib.Omega.{arith}
 use borrow.Author.Tests.{lt-leb}
 use lib.Dec.{leb, le→leb}
 use lib.ListN.{length, drop, set}
-use lib.Seq.{paste, paste-suc, take-length, drop-length}
+use lib.Seq.{paste, paste-suc, take-length, drop-length, getD-append-add}
 use lib.Ieee.{Float, nan}
 use lib.Ieee.Bits.{is-true}
 use Rattle.number.specs.Vectors.{_!_, tabulate}
@@ -20,18 +20,30 @@ tabulate-same : (n : ℕ) (f g : ℕ → Float) → ((i : ℕ) → f i ≡ g i) 
 tabulate-same zero f g e = refl
 tabulate-same (suc n) f g e = ap₂ (λ (a : Float) (l : List Float). a ∷ l) (e 0) (tabulate-same n (λ i. f (suc i)) (λ i. g (suc i)) (λ i. e (suc i)))
 
--- all numbers of a list
-tabulate-self : (x : List Float) → tabulate (length x) (λ i. x ! i) ≡ x
-tabulate-self [] = refl
-tabulate-self (a ∷ x) = ap (λ (l : List Float). a ∷ l) (tabulate-self x)
+-- the numbers of a list that another stands behind
+tabulate-front : (x y : List Float) → tabulate (length x) (λ i. (x ++ y) ! i) ≡ x
+tabulate-front [] y = refl
+tabulate-front (a ∷ x) y = ap (λ (l : List Float). a ∷ l) (tabulate-front x y)
 
-pub whole : (x : List Float) (n : ℕ) (r : List Float) → length x ≡ n → r ≡ part 0 n x → r ≡ x
+-- from k on, x reads as y
+abbrev pub From : List Float → ℕ → List Float → Type 0
+From x k y = (m : ℕ) → x ! (k + m) ≡ y ! m
+
+pub from-start : (x y : List Float) → x ≡ y → From x 0 y
+from-start x y e m = ap (λ (i : ℕ). x ! i) (zero-add m) ∙ ap (λ (l : List Float). l ! m) e
+
+pub from-next : (x a y : List Float) (k n : ℕ) → From x k (a ++ y) → length a ≡ n → From x (k + n) y
+from-next x a y k n h e m =
+    ap (λ (i : ℕ). x ! i) (add-assoc k n m) ∙ h (n + m) ∙ ap (λ (i : ℕ). (a ++ y) ! (i + m)) (sym e) ∙ getD-append-add a y m nan
+
+pub part-from : (x a y : List Float) (k n : ℕ) → From x k (a ++ y) → length a ≡ n → part k n x ≡ a
 unfolding part
-whole x n r e h =
-    h
-    ∙ tabulate-same n (λ i. x ! (0 + i)) (λ i. x ! i) (λ i. ap (λ (k : ℕ). x ! k) (zero-add i))
-    ∙ ap (λ (m : ℕ). tabulate m (λ i. x ! i)) (sym e)
-    ∙ tabulate-self x
+part-from x a y k n h e =
+    tabulate-same n (λ i. x ! (k + i)) (λ i. (a ++ y) ! i) h ∙ ap (λ (m : ℕ). tabulate m (λ i. (a ++ y) ! i)) (sym e) ∙ tabulate-front a y
+
+-- all numbers of a list
+pub whole : (x : List Float) (n : ℕ) (r : List Float) → length x ≡ n → r ≡ part 0 n x → r ≡ x
+whole x n r e h = h ∙ part-from x x [] 0 n (from-start x (x ++ []) (sym (append-nil x))) e
 
 -- ---- writing
 

@@ -1,0 +1,2 @@
+-- A list of adds over the C interface.
+pub mod FlatLists
