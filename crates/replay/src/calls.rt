@@ -1,7 +1,5 @@
-// The calls that are replayed. A new one is a name and a line here, and in the file of its crate a
-// function of its own and a line in `replay` with its numbers of inputs and outputs.
-ghost use lib.ListN.{length};
-ghost use mathlib.Core.Path.{_≡_};
+// The calls that are replayed, by number: in the file of its crate a call has a line in `answer`, and in
+// `replay`, in the same order, its file with its numbers of inputs and outputs.
 use crate::matrices;
 use crate::numbers;
 use crate::points;
@@ -11,66 +9,53 @@ use crate::systems;
 // No call has more outputs.
 pub const MOST: usize = 59;
 
-pub enum Call {
-    Sqrt,
-    Abs,
-    Recip,
-    IsFinite,
-    Max,
-    Min,
-    ToBits,
-    FromBits,
-    DampingDiagonal,
-    DampedMatrix,
-    FactorDamped,
-    FactorNew,
-    FactorSolve,
-    ReciprocalConditionNumber,
-    SolvePositiveDefinite,
-    PixelProjection,
-    LinearizePoint,
-    PointStep,
-    SystemNew,
-    SystemAdd,
-    SystemFinishDamping,
-    SystemIsValid,
-    SystemGradientNorm,
-    SystemPredictedReduction,
-    Step,
-    LimitPoseStep,
-}
+// The number of each crate's first call
+pub const NUMBERS: usize = 0;
+
+pub const MATRICES: usize = 8;
+
+pub const POINTS: usize = 15;
+
+pub const SYSTEMS: usize = 18;
+
+pub const STEPS: usize = 24;
 
 // Makes the call on the inputs x, and answers its code; `out` has room for just its outputs. Counts pass
 // as the numbers whose patterns they are.
-pub fn answer(call: Call, x: &[f64], out: &mut [f64]) -> u64
-    requires { ⌜ length (now x) ≡ 160 ⌝ }
-{
-    match call {
-        Call::Sqrt => numbers::sqrt(x, out),
-        Call::Abs => numbers::abs(x, out),
-        Call::Recip => numbers::recip(x, out),
-        Call::IsFinite => numbers::is_finite(x, out),
-        Call::Max => numbers::max(x, out),
-        Call::Min => numbers::min(x, out),
-        Call::ToBits => numbers::to_bits(x, out),
-        Call::FromBits => numbers::from_bits(x, out),
-        Call::DampingDiagonal => matrices::damping_diagonal(x, out),
-        Call::DampedMatrix => matrices::damped_matrix(x, out),
-        Call::FactorDamped => matrices::factor_damped(x, out),
-        Call::FactorNew => matrices::factor_new(x, out),
-        Call::FactorSolve => matrices::factor_solve(x, out),
-        Call::ReciprocalConditionNumber => matrices::reciprocal_condition_number(x, out),
-        Call::SolvePositiveDefinite => matrices::solve_positive_definite(x, out),
-        Call::PixelProjection => points::pixel_projection(x, out),
-        Call::LinearizePoint => points::linearize_point(x, out),
-        Call::PointStep => points::point_step(x, out),
-        Call::SystemNew => systems::system_new(x, out),
-        Call::SystemAdd => systems::system_add(x, out),
-        Call::SystemFinishDamping => systems::system_finish_damping(x, out),
-        Call::SystemIsValid => systems::system_is_valid(x, out),
-        Call::SystemGradientNorm => systems::system_gradient_norm(x, out),
-        Call::SystemPredictedReduction => systems::system_predicted_reduction(x, out),
-        Call::Step => steps::step(x, out),
-        Call::LimitPoseStep => steps::limit_pose_step(x, out),
+pub fn answer(call: usize, x: &[f64], out: &mut [f64]) -> u64 {
+    if call < MATRICES {
+        return numbers::answer(call, x, out);
     }
+    if call < POINTS {
+        return matrices::answer(call - MATRICES, x, out);
+    }
+    if call < SYSTEMS {
+        return points::answer(call - POINTS, x, out);
+    }
+    if call < STEPS {
+        return systems::answer(call - SYSTEMS, x, out);
+    }
+    steps::answer(call - STEPS, x, out)
+}
+
+// The inputs from `start` up to `end`; none where there are not so many, and the call then refuses by row 1
+pub fn part(x: &[f64], start: usize, end: usize) -> &[f64] {
+    if x.len() < end {
+        return &x[0..0];
+    }
+    if end < start {
+        return &x[0..0];
+    }
+    &x[start..end]
+}
+
+// A call that gives one number and never refuses
+pub fn give(value: f64, out: &mut [f64]) -> u64 {
+    slices::copy(&[value], 0, out);
+    0
+}
+
+// A count as an output
+pub fn pattern(count: u16) -> f64 {
+    number::from_bits(count as u64)
 }

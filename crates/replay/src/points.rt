@@ -1,29 +1,25 @@
 // The calls of `block_calls`.
-ghost use lib.ListN.{length};
-ghost use mathlib.Core.Path.{_≡_};
-use crate::calls::Call;
+use crate::calls;
+use crate::calls::part;
 use crate::files;
+use vectors::entry;
 
 pub fn replay() {
-    files::replay(b"pixel_projection.txt", 10, 8, Call::PixelProjection);
-    files::replay(b"linearize_point.txt", 37, 59, Call::LinearizePoint);
-    files::replay(b"point_step_with_damping_norm.txt", 65, 4, Call::PointStep);
+    files::replay(
+        b"pixel_projection.txt linearize_point.txt point_step_with_damping_norm.txt",
+        &[10, 37, 65],
+        &[8, 59, 4],
+        calls::POINTS,
+    );
 }
 
-pub fn pixel_projection(x: &[f64], out: &mut [f64]) -> u64
-    requires { ⌜ length (now x) ≡ 160 ⌝ }
-{
-    block_calls::pixel_projection(&x[0..5], &x[5..7], &x[7..10], out)
-}
-
-pub fn linearize_point(x: &[f64], out: &mut [f64]) -> u64
-    requires { ⌜ length (now x) ≡ 160 ⌝ }
-{
-    block_calls::linearize_point(&x[0..29], &x[29..37], out)
-}
-
-pub fn point_step(x: &[f64], out: &mut [f64]) -> u64
-    requires { ⌜ length (now x) ≡ 160 ⌝ }
-{
-    block_calls::point_step_with_damping_norm(&x[0..59], x[59], &x[60..65], out)
+pub fn answer(call: usize, x: &[f64], out: &mut [f64]) -> u64 {
+    match call {
+        0 => block_calls::pixel_projection(part(x, 0, 5), part(x, 5, 7), part(x, 7, 10), out),
+        1 => block_calls::linearize_point(part(x, 0, 29), part(x, 29, 37), out),
+        _ => {
+            let block = part(x, 0, 59);
+            block_calls::point_step_with_damping_norm(block, entry(x, 59), part(x, 60, 65), out)
+        }
+    }
 }

@@ -1,14 +1,13 @@
 // The counts of one file, and what is written of it.
 use crate::calls;
-use crate::calls::Call;
 use crate::calls::MOST;
 use crate::cases::Case;
 
-// A call, and how many words stand on both sides of `=`
+// A call by its number, and how many words stand on both sides of `=`
 pub struct Form {
     pub inputs: usize,
     pub outputs: usize,
-    pub call: Call,
+    pub call: usize,
 }
 
 pub struct Tally {
@@ -47,9 +46,8 @@ impl Tally {
         if case.refused {
             self.refused = std::num::wrapping_add_u64(self.refused, 1);
         }
-        let call = form.call;
         let x = case.numbers();
-        let code = calls::answer(call, &x, out);
+        let code = calls::answer(form.call, &x, out);
         if case.formed && case.split == form.inputs && case.agrees(code, out) {
             return self;
         }

@@ -13,7 +13,7 @@ use crate::function::Walk;
 use crate::input::Input;
 
 pub use equations::equations;
-pub use matrices::{inverse, matrix};
+pub use matrices::{inverse, lost_floor, matrix, no_scale};
 pub use sights::sight;
 pub use steps::{MANY_POINTS, five_points, pose_step, problem};
 pub use systems::{MOST_BLOCKS, block, correspondence, system};

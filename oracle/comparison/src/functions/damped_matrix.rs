@@ -12,7 +12,15 @@ pub const FUNCTION: Function = Function {
     arguments: &[lent("matrix", 9), number("damping"), room(9)],
     rows: &[3, 10],
     walk: None,
-    generate: |source| Input::of(&[&inputs::matrix(source), &[inputs::damping(source)]]),
+    generate: |source| {
+        // Row 3 comes first: row 10 and the rule for zeros ask for more matrices of their own.
+        let matrix = match source.below(20) {
+            0 => inputs::no_scale(source),
+            1 => inputs::lost_floor(source),
+            _ => inputs::matrix(source),
+        };
+        Input::of(&[&matrix, &[inputs::damping(source)]])
+    },
     port: |lent, rooms| slices::damped_matrix(lent.numbers(0), lent.number(1), rooms.numbers[0]),
     oracle: |input| damped(input, zeros::damped_matrix),
     plain: Some(|input| damped(input, point_block::damped_matrix)),

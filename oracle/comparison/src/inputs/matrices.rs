@@ -87,7 +87,7 @@ fn near_singular(source: &mut Source) -> [f64; 9] {
 }
 
 /// A largest entry so small that 64ε of it is lost, beside zeros of both signs.
-fn lost_floor(source: &mut Source) -> [f64; 9] {
+pub fn lost_floor(source: &mut Source) -> [f64; 9] {
     let mut entries: [f64; 3] = std::array::from_fn(|_| match source.below(4) {
         0 => f64::from_bits(source.next_bits() >> 18),
         1 => -source.moderate().abs(),
@@ -113,7 +113,7 @@ fn asymmetric(source: &mut Source) -> [f64; 9] {
 }
 
 /// No positive finite largest diagonal entry.
-fn no_scale(source: &mut Source) -> [f64; 9] {
+pub fn no_scale(source: &mut Source) -> [f64; 9] {
     let mut matrix = generate::matrix(source);
     let infinite = source.once_in(3);
     for place in [0, 4, 8] {
