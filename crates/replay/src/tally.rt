@@ -1,7 +1,7 @@
 // The counts of one file, and what is written of it.
 use crate::calls;
 use crate::calls::MOST;
-use crate::cases::Case;
+use cases::Case;
 
 // A call by its number, and how many words stand on both sides of `=`
 pub struct Form {

@@ -1,4 +1,4 @@
-// The reader: a line of stored answers as numbers.
+// A line of stored answers: its reader, and whether an answer is the stored one.
 ghost use Prim.Native.Nat.{_<_, _≤_};
 ghost use lib.ListN.{length};
 
@@ -28,7 +28,7 @@ struct Place {
 
 impl Case {
     // The line that begins at `start`
-    pub(crate) fn read(text: &[u8], start: usize) -> Self
+    pub fn read(text: &[u8], start: usize) -> Self
         requires { ⌜ start ≤ length (now text) ⌝ }
         ensures { λ r. ⌜ start < r .next ⌝ }
     {
@@ -61,7 +61,7 @@ impl Case {
     }
 
     // The numbers of all words
-    pub(crate) fn numbers(self) -> [f64; WORDS] {
+    pub fn numbers(self) -> [f64; WORDS] {
         let words = self.words;
         let mut values = [0.0; WORDS];
         for i in 0..WORDS {
@@ -71,7 +71,7 @@ impl Case {
     }
 
     // Whether the stored answer is this code, with just these numbers where it is 0
-    pub(crate) fn agrees(self, code: u64, given: &[f64]) -> bool {
+    pub fn agrees(self, code: u64, given: &[f64]) -> bool {
         let words = self.words;
         let start = std::num::wrapping_add_usize(self.split, 1);
         if self.refused {

@@ -1,9 +1,9 @@
--- `replay::cases::Case::numbers` is safe and ends. Assumes nothing.
+-- `cases::Case::numbers` is safe and ends. Assumes nothing.
 use Prim.Native.Nat.{_-_, _≤_}
 use native.Mathlib.Omega.{arith}
 use borrow.Author.Needs.{needs}
-use Rattle.replay.proofs.cases.Case.numbers.Statement.{statement}
-use Rattle.replay.proofs.cases.Case.numbers.Tie as tie
+use Rattle.cases.proofs.Case.numbers.Statement.{statement}
+use Rattle.cases.proofs.Case.numbers.Tie as tie
 
 abbrev Inv-loop : tie.InvT-loop
 Inv-loop self values₀ i₀ values i = i ≤ 160

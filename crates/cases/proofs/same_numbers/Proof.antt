@@ -1,11 +1,11 @@
--- `replay::cases::same_numbers` is safe and ends. Assumes nothing.
+-- `cases::same_numbers` is safe and ends. Assumes nothing.
 use mathlib.Core.Path.{_≡_}
 use Prim.Native.Nat.{_+_, _-_, _≤_}
 use native.Mathlib.Omega.{arith}
 use borrow.Author.Needs.{needs}
 use lib.ListN.{length}
-use Rattle.replay.proofs.cases.same_numbers.Statement.{statement}
-use Rattle.replay.proofs.cases.same_numbers.Tie as tie
+use Rattle.cases.proofs.same_numbers.Statement.{statement}
+use Rattle.cases.proofs.same_numbers.Tie as tie
 
 abbrev Inv-loop : tie.InvT-loop
 Inv-loop words start given i₀ i-end i = (i-end ≡ length given) × (start + length given ≤ length words)

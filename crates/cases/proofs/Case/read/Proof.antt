@@ -1,10 +1,10 @@
--- `replay::cases::Case::read` meets its contract. Assumes nothing.
+-- `cases::Case::read` meets its contract. Assumes nothing.
 use Prim.Native.Nat.{_-_, _≤_}
 use native.Mathlib.Omega.{arith}
 use borrow.Author.Needs.{needs}
 use lib.ListN.{length}
-use Rattle.replay.proofs.cases.Case.read.Statement.{statement}
-use Rattle.replay.proofs.cases.Case.read.Tie as tie
+use Rattle.cases.proofs.Case.read.Statement.{statement}
+use Rattle.cases.proofs.Case.read.Tie as tie
 
 abbrev Inv-loop : tie.InvT-loop
 Inv-loop text start words₀ place₀ at₀ words place at = (start ≤ at) × (at ≤ length text)
