@@ -27,8 +27,24 @@ struct Place {
 }
 
 impl Case {
-    // The line that begins at `start`
+    // The line that begins at `start`; out of form where the text ends before it
     pub fn read(text: &[u8], start: usize) -> Self
+        ensures { λ r. ⌜ (start ≤ length (now (text .entry)) → start < r .next) ⌝ }
+    {
+        if text.len() < start {
+            return Self {
+                words: [0; WORDS],
+                count: 0,
+                split: 0,
+                refused: false,
+                formed: false,
+                next: start,
+            };
+        }
+        Self::line(text, start)
+    }
+
+    fn line(text: &[u8], start: usize) -> Self
         requires { ⌜ start ≤ length (now text) ⌝ }
         ensures { λ r. ⌜ start < r .next ⌝ }
     {

@@ -21,6 +21,6 @@ of-spec =
     (λ c. search needs)
     (λ c κs. search needs)
     (λ c κs. search needs)
-    (λ c. omega arith)
+    (λ c. omega (arith, c .before .read .ensures (omega arith)))
     (λ c. search needs)
     (λ c. search needs))
