@@ -1,7 +1,7 @@
 //! One problem with everything that the calls take, made before the clock
 //! starts: flat for the port, and in its own types for the original.
 
-use oracle::generate::{Case, Source, plate};
+use oracle::generate::{Case, Source, problem};
 use oracle::optimizer::timed::{OwnBlock, OwnSystem, Prepared};
 
 /// The seed of every plate: a sound rig, up to 0.5 pixels of noise.
@@ -9,7 +9,7 @@ const SEED: u64 = 7;
 
 /// A sound plate of `n` correspondences at a damping.
 pub fn case(n: usize, damping: f64) -> Case {
-    let mut case = plate(&mut Source::new(SEED), n);
+    let mut case = problem(&mut Source::new(SEED), n);
     case.damping = damping;
     case
 }
@@ -28,7 +28,7 @@ pub struct Problem<'a> {
 
 impl<'a> Problem<'a> {
     pub fn new(case: &'a Case) -> Self {
-        let prepared = Prepared::new(&case.plate());
+        let prepared = Prepared::new(&case.problem());
         let indices = 0..case.count();
         let own_blocks: Vec<OwnBlock> = indices
             .clone()

@@ -2,7 +2,7 @@
 //! plates, sound and unsound. The same seed gives the same inputs anywhere; no
 //! function of the machine's mathematics library is used.
 
-use crate::optimizer::{Plate, norm};
+use crate::optimizer::{Problem, norm};
 use crate::projection::{Camera, pixel_projection, tangent_basis};
 use crate::schur::{Block, Correspondence, Rig, System};
 
@@ -325,8 +325,8 @@ impl Case {
     }
 
     /// As the whole step takes it.
-    pub fn plate(&self) -> Plate<'_> {
-        Plate {
+    pub fn problem(&self) -> Problem<'_> {
+        Problem {
             rig: self.rig,
             damping: self.damping,
             points: &self.points,
@@ -385,7 +385,7 @@ fn grid(source: &mut Source, n: usize) -> Vec<[f64; 3]> {
 }
 
 /// A sound rig over a plate of `n` correspondences, seen with noise.
-pub fn plate(source: &mut Source, n: usize) -> Case {
+pub fn problem(source: &mut Source, n: usize) -> Case {
     let mut case = Case::new(rig(source), damping(source));
     let noise = if source.once_in(6) { 0.0 } else { 0.5 };
     for point in grid(source, n) {
@@ -439,7 +439,7 @@ pub const FAULTS: [Fault; 11] = [
 
 /// A plate of `n` correspondences with one fault.
 pub fn faulty(source: &mut Source, n: usize, fault: Fault) -> Case {
-    let mut case = plate(source, n);
+    let mut case = problem(source, n);
     match fault {
         Fault::OnLine => return on_line(source, n),
         Fault::ZeroBasis => case.rig.basis = [0.0; 6],
@@ -546,9 +546,9 @@ fn scale(source: &mut Source, case: &mut Case) {
 }
 
 /// A plate of `n` correspondences of any sort: sound, faulty, or with damaged numbers.
-pub fn any_plate(source: &mut Source, n: usize) -> Case {
+pub fn any_problem(source: &mut Source, n: usize) -> Case {
     let mut case = if source.once_in(2) {
-        plate(source, n)
+        problem(source, n)
     } else {
         let fault = FAULTS[source.below(FAULTS.len())];
         faulty(source, n, fault)
@@ -625,7 +625,7 @@ pub fn equations(source: &mut Source) -> ([f64; 25], [f64; 5]) {
 
 /// One correspondence under a rig, sound or damaged.
 pub fn correspondence(source: &mut Source) -> (Rig, Correspondence) {
-    let case = any_plate(source, 1);
+    let case = any_problem(source, 1);
     (case.rig, case.correspondence(0))
 }
 

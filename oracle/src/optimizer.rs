@@ -6,7 +6,7 @@ use crate::schur::{Rig, System};
 
 /// What a whole step is lent, flat, with its rig and damping.
 #[derive(Clone, Copy, Debug)]
-pub struct Plate<'a> {
+pub struct Problem<'a> {
     pub rig: Rig,
     pub damping: f64,
     /// Three numbers a point.
@@ -18,7 +18,7 @@ pub struct Plate<'a> {
     pub inverse_deviations: &'a [f64],
 }
 
-impl Plate<'_> {
+impl Problem<'_> {
     /// How many points, if all lengths belong to one count.
     pub fn count(&self) -> Option<usize> {
         let n = self.inverse_deviations.len();
@@ -101,26 +101,26 @@ pub fn norm(vector: &[f64; 3]) -> f64 {
 
 /// `reduced_system` with `Loss::L2`: all blocks added, pose damping done; none
 /// if a point is not projectable. The lengths must belong to one count.
-pub fn reduced_system(plate: &Plate<'_>) -> Option<System> {
-    reach::reduced_system(plate)
+pub fn reduced_system(problem: &Problem<'_>) -> Option<System> {
+    reach::reduced_system(problem)
 }
 
 /// The original's part of the whole step, from `reduced_system` to
 /// `predicted_reduction`. The lengths must belong to one count; nothing else
 /// is checked first.
-pub fn step(plate: &Plate<'_>) -> Outcome {
-    reach::step(plate)
+pub fn step(problem: &Problem<'_>) -> Outcome {
+    reach::step(problem)
 }
 
 /// The whole step with the numbered refusals 1 to 11, in their order.
-pub fn whole_step(plate: &Plate<'_>, room: usize) -> Result<Box<Step>, Refusal> {
-    if let Some(refusal) = first_rows(plate, room) {
+pub fn whole_step(problem: &Problem<'_>, room: usize) -> Result<Box<Step>, Refusal> {
+    if let Some(refusal) = first_rows(problem, room) {
         return Err(refusal);
     }
-    if let Some(refusal) = reach::middle_rows(plate) {
+    if let Some(refusal) = reach::middle_rows(problem) {
         return Err(refusal);
     }
-    match step(plate) {
+    match step(problem) {
         Outcome::Done(step) => Ok(step),
         Outcome::NotProjectable(view, index) => Err(refuse(9, view, index)),
         Outcome::StepSolve => Err(refuse(11, 0, 0)),
@@ -129,21 +129,21 @@ pub fn whole_step(plate: &Plate<'_>, room: usize) -> Result<Box<Step>, Refusal> 
 }
 
 /// Rows 1 to 5, which the original leaves to its caller or checks elsewhere.
-pub(crate) fn first_rows(plate: &Plate<'_>, room: usize) -> Option<Refusal> {
-    let Some(n) = plate.count().filter(|n| room == 3 * n) else {
+pub(crate) fn first_rows(problem: &Problem<'_>, room: usize) -> Option<Refusal> {
+    let Some(n) = problem.count().filter(|n| room == 3 * n) else {
         return Some(refuse(1, 0, 0));
     };
     if n > 65_535 {
         return Some(refuse(2, 0, 0));
     }
-    if !crate::point_block::good_damping(plate.damping) {
+    if !crate::point_block::good_damping(problem.damping) {
         return Some(refuse(3, 0, 0));
     }
     let bad = |value: &f64| !(value.is_finite() && *value > 0.0);
-    if let Some(index) = plate.inverse_deviations.iter().position(bad) {
+    if let Some(index) = problem.inverse_deviations.iter().position(bad) {
         return Some(refuse(4, 0, index));
     }
-    let baseline = plate.rig.baseline;
+    let baseline = problem.rig.baseline;
     if !(baseline.is_finite() && baseline > 64.0 * f64::EPSILON) {
         return Some(refuse(5, 0, 0));
     }
@@ -184,7 +184,7 @@ pub struct Pass {
 /// hold `step` against. `Err` holds view and index of a point that cannot be
 /// projected. None where the baseline is not the norm of the translation, since
 /// `refine_impl` takes no other.
-pub fn refine_once(plate: &Plate<'_>, accept: bool) -> Option<Result<Pass, (usize, usize)>> {
-    let computed = norm(&plate.rig.translation);
-    (computed.to_bits() == plate.rig.baseline.to_bits()).then(|| reach::refine_once(plate, accept))
+pub fn refine_once(problem: &Problem<'_>, accept: bool) -> Option<Result<Pass, (usize, usize)>> {
+    let computed = norm(&problem.rig.translation);
+    (computed.to_bits() == problem.rig.baseline.to_bits()).then(|| reach::refine_once(problem, accept))
 }

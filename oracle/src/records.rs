@@ -1,11 +1,11 @@
 //! Run records from a seed: in form, refused by each row, and out of form.
 
-use crate::generate::{Case, Source, any_plate, plate};
+use crate::generate::{Case, Source, any_problem, problem};
 use crate::record::LONGEST;
 use crate::refused::refused;
 
 /// Where the five fields before the points begin.
-const HEAD: [usize; 5] = [0, 43, 86, 185, 244];
+const HEADER: [usize; 5] = [0, 43, 86, 185, 244];
 
 /// Where the first point begins, and the bytes of each.
 const POINTS: usize = 255;
@@ -51,7 +51,7 @@ fn push(record: &mut Vec<u8>, tag: u8, parts: &[&[f64]]) {
 /// Where each field of a record with so many points begins.
 pub fn starts(points: usize) -> Vec<usize> {
     let points = (0..points).map(|index| POINTS + POINT * index);
-    HEAD.into_iter().chain(points).collect()
+    HEADER.into_iter().chain(points).collect()
 }
 
 /// A record of any sort. Each row that it can be refused by has its share.
@@ -75,14 +75,14 @@ fn in_form(source: &mut Source) -> Vec<u8> {
     let case = match source.below(4) {
         0 => wild(source, n),
         1 => far_points(source, n),
-        _ => any_plate(source, n),
+        _ => any_problem(source, n),
     };
     record(&case)
 }
 
 /// A plate in which some numbers, or all, have any exponent and their own sign.
 fn wild(source: &mut Source, n: usize) -> Case {
-    let mut case = plate(source, n);
+    let mut case = problem(source, n);
     let times = [1, 4, 40][source.below(3)];
     for place in case.places() {
         if source.once_in(times) {
@@ -95,7 +95,7 @@ fn wild(source: &mut Source, n: usize) -> Case {
 /// A plate at damping zero, with correspondences so far away that some are weak and some
 /// do not factor.
 fn far_points(source: &mut Source, n: usize) -> Case {
-    let mut case = plate(source, n);
+    let mut case = problem(source, n);
     case.damping = if source.once_in(2) { 0.0 } else { -0.0 };
     for point in case.points.as_chunks_mut::<3>().0 {
         if source.once_in(2) {
@@ -115,13 +115,13 @@ fn by_row(source: &mut Source) -> Vec<u8> {
     } else {
         vec![first as u32, second as u32]
     };
-    record(&refused(source, &rows).expect("no plate with row 2"))
+    record(&refused(source, &rows).expect("no problem with row 2"))
 }
 
 /// Longer than a record may be; most are in form but for that.
 fn too_long(source: &mut Source) -> Vec<u8> {
     let points = MOST + source.below(2);
-    let mut record = record(&any_plate(source, points));
+    let mut record = record(&any_problem(source, points));
     let least = usize::from(points == MOST);
     let more = [least, POINT, 1 + source.below(5000)][source.below(3)];
     record.resize(record.len() + more, source.next_bits() as u8);
@@ -139,7 +139,7 @@ fn damaged(source: &mut Source) -> Vec<u8> {
         1..10 => source.below(5),
         _ => 5 + source.below(8),
     };
-    let mut fields = split(&record(&plate(source, n)), n);
+    let mut fields = split(&record(&problem(source, n)), n);
     let fault = source.below(7);
     let place = source.below(fields.len());
     let other = source.below(fields.len());

@@ -1,7 +1,7 @@
 //! Plates by the rows that refuse them: each row alone, and any two together,
 //! so that it shows which one comes first.
 
-use crate::generate::{Case, Source, plate};
+use crate::generate::{Case, Source, problem};
 
 /// The rows of the whole step, in the order in which they are tested.
 pub const ROWS: [u32; 11] = [1, 2, 3, 4, 5, 6, 7, 8, 9, 10, 11];
@@ -17,7 +17,7 @@ pub fn refused(source: &mut Source, rows: &[u32]) -> Option<Case> {
         (false, true) => 1 + source.below(4),
         (false, false) => 5 + source.below(8),
     };
-    let mut case = plate(source, count);
+    let mut case = problem(source, count);
     case.damping = 0.0;
     // A correspondence for each row, so that none mends what another broke.
     let index = source.below(count);

@@ -1,7 +1,7 @@
 //! The bench figures that concern functions of the original.
 
 use oracle::flat::{all_same, same};
-use oracle::optimizer::{Plate, Refusal, limit_pose_step, whole_step};
+use oracle::optimizer::{Problem, Refusal, limit_pose_step, whole_step};
 use oracle::point_block::{self, RCOND_THRESHOLD};
 use oracle::projection::pixel_projection;
 use oracle::schur::{Correspondence, Rig, System, linearize_point};
@@ -168,7 +168,7 @@ impl Flat {
     }
 
     fn refusal_at(&self, damping: f64, room: usize) -> Option<(u32, usize, usize)> {
-        let plate = Plate {
+        let problem = Problem {
             rig: self.rig,
             damping,
             points: &self.points,
@@ -177,7 +177,7 @@ impl Flat {
             inverse_deviations: &self.inverse_deviations,
         };
         let tuple = |refusal: Refusal| (refusal.number, refusal.view, refusal.index);
-        whole_step(&plate, room).err().map(tuple)
+        whole_step(&problem, room).err().map(tuple)
     }
 
     fn refusal(&self) -> Option<(u32, usize, usize)> {

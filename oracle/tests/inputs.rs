@@ -13,7 +13,7 @@ use oracle::{point_block, projection, schur, solver, zeros};
 fn the_same_seed_gives_the_same_inputs() {
     let mut first = Source::new(7);
     assert_eq!(first.next_bits(), 0x63CB_E1E4_5932_0DD7);
-    let numbers = |seed| generate::any_plate(&mut Source::new(seed), 9).points;
+    let numbers = |seed| generate::any_problem(&mut Source::new(seed), 9).points;
     assert!((0..200).all(|seed| all_same(&numbers(seed), &numbers(seed))));
 }
 
@@ -58,17 +58,17 @@ fn no_input_panics() {
 }
 
 #[test]
-fn no_plate_panics_and_no_point_step_is_refused() {
+fn no_problem_panics_and_no_point_step_is_refused() {
     let mut source = Source::new(2);
     for _ in 0..4000 {
         let n = source.below(12);
-        let mut case = generate::any_plate(&mut source, n);
-        assert!(!matches!(step(&case.plate()), Outcome::Candidate));
-        let _ = whole_step(&case.plate(), 3 * n);
+        let mut case = generate::any_problem(&mut source, n);
+        assert!(!matches!(step(&case.problem()), Outcome::Candidate));
+        let _ = whole_step(&case.problem(), 3 * n);
         if source.once_in(4) {
             case.places().into_iter().for_each(|v| *v = source.mixed());
-            assert!(!matches!(step(&case.plate()), Outcome::Candidate));
-            let _ = whole_step(&case.plate(), 3 * n);
+            assert!(!matches!(step(&case.problem()), Outcome::Candidate));
+            let _ = whole_step(&case.problem(), 3 * n);
         }
     }
 }

@@ -6,7 +6,7 @@ use std::fs;
 use std::path::{Path, PathBuf};
 use std::process::{Command, Output};
 
-use oracle::generate::{Case, Source, any_plate, plate};
+use oracle::generate::{Case, Source, any_problem, problem};
 use oracle::optimizer::{Refusal, reduced_system, whole_step};
 use oracle::record::{LONGEST, lines, list};
 use oracle::records::{any_record, record, starts};
@@ -41,7 +41,7 @@ fn sample(name: &str) -> Vec<u8> {
 
 /// A sound plate of so many dots at damping zero.
 fn good(points: usize) -> Case {
-    let mut case = plate(&mut Source::new(1), points);
+    let mut case = problem(&mut Source::new(1), points);
     case.damping = 0.0;
     case
 }
@@ -50,7 +50,7 @@ fn good(points: usize) -> Case {
 fn document_01() {
     let expected = "run 5 0000000000000000\np 0 n\np 1 g\np 2 g\np 3 g\np 4 g\n\
                     sum 3FE0000000000000 3FF0000000000000 1 n x\n";
-    assert_eq!(text(&sample("document-01.plate")), expected);
+    assert_eq!(text(&sample("document-01.problem")), expected);
 }
 
 /// Every stored list is given, and together they show every answer there is.
@@ -60,7 +60,7 @@ fn samples() {
     for entry in fs::read_dir(folder().join("samples")).expect("a folder") {
         let path = entry.expect("an entry").path();
         let record = match path.extension().and_then(|end| end.to_str()) {
-            Some("plate") => tool("pack", &path),
+            Some("problem") => tool("pack", &path),
             Some("record") => fs::read(&path).expect("a record"),
             _ => continue,
         };
@@ -164,12 +164,12 @@ fn minus_zero() {
 
 /// The list beside the original's own walk over the same plate.
 fn hold(case: &Case) {
-    let whole = whole_step(&case.plate(), 3 * case.count()).err();
+    let whole = whole_step(&case.problem(), 3 * case.count()).err();
     let whole = whole.filter(|refusal| refusal.number <= 9);
     let given = lines(&record(case));
     assert_eq!(given.as_ref().err(), whole.as_ref());
     let Ok(given) = given else { return };
-    let system = reduced_system(&case.plate()).expect("all correspondences can be projected");
+    let system = reduced_system(&case.problem()).expect("all correspondences can be projected");
     let (weak, valid) = (system.weak_point_count, system.is_valid());
     let last = format!(
         "sum {:016X} {:016X} {weak} {} {}",
@@ -195,11 +195,11 @@ fn hold(case: &Case) {
 }
 
 #[test]
-fn seeded_plates() {
+fn seeded_problems() {
     let mut source = Source::new(9);
     for _ in 0..4000 {
         let n = source.below(12);
-        hold(&any_plate(&mut source, n));
+        hold(&any_problem(&mut source, n));
     }
 }
 
@@ -255,12 +255,12 @@ fn seeded_records() {
 fn text_and_back() {
     let mut source = Source::new(12);
     for number in [0, 6, 512] {
-        let mut case = any_plate(&mut source, number);
+        let mut case = any_problem(&mut source, number);
         case.places().into_iter().for_each(|v| *v = source.mixed());
         let bytes = record(&case);
         let text = tool("unpack", &file(&format!("{number}.record"), &bytes));
-        let plate = file(&format!("{number}.plate"), &text);
-        assert!(tool("pack", &plate) == bytes, "{}", plate.display());
+        let problem = file(&format!("{number}.problem"), &text);
+        assert!(tool("pack", &problem) == bytes, "{}", problem.display());
     }
 }
 
@@ -289,7 +289,7 @@ fn bad_files_are_named() {
         ),
     ];
     for (number, (text, message)) in texts.iter().enumerate() {
-        let path = file(&format!("bad-{number}.plate"), text.as_bytes());
+        let path = file(&format!("bad-{number}.problem"), text.as_bytes());
         refuses("pack", &path, message);
     }
     refuses(

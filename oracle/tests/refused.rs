@@ -8,7 +8,7 @@ use oracle::refused::{ROWS, refused};
 fn given(source: &mut Source, first: u32, second: u32) -> Option<u32> {
     let case = refused(source, &[first, second])?;
     let room = 3 * case.count();
-    Some(whole_step(&case.plate(), room).map_or_else(|refusal| refusal.number, |_| 0))
+    Some(whole_step(&case.problem(), room).map_or_else(|refusal| refusal.number, |_| 0))
 }
 
 #[test]

@@ -4,7 +4,7 @@
 
 use oracle::flat::{all_same, same};
 use oracle::generate::{self, Case, Source};
-use oracle::optimizer::{Outcome, Pass, Plate, Step, norm, refine_once, step};
+use oracle::optimizer::{Outcome, Pass, Problem, Step, norm, refine_once, step};
 
 const CASES: u64 = 3000;
 
@@ -12,12 +12,12 @@ const CASES: u64 = 3000;
 fn case(seed: u64) -> Case {
     let mut source = Source::new(seed);
     let n = source.below(14);
-    let mut case = generate::any_plate(&mut source, n);
+    let mut case = generate::any_problem(&mut source, n);
     case.rig.baseline = norm(&case.rig.translation);
     case
 }
 
-fn check_step(plate: &Plate<'_>, step: &Step, refused: &Pass, accepted: &Pass) {
+fn check_step(problem: &Problem<'_>, step: &Step, refused: &Pass, accepted: &Pass) {
     assert_eq!(
         (refused.linearization, refused.step_solve, refused.candidate),
         (0, 0, 0)
@@ -34,11 +34,11 @@ fn check_step(plate: &Plate<'_>, step: &Step, refused: &Pass, accepted: &Pass) {
         accepted.step_norm,
         (pose_rms * pose_rms + rms * rms).sqrt()
     ));
-    let moved: Vec<f64> = (plate.points.iter().zip(&step.point_steps))
-        .map(|(point, step)| point + plate.rig.baseline * step)
+    let moved: Vec<f64> = (problem.points.iter().zip(&step.point_steps))
+        .map(|(point, step)| point + problem.rig.baseline * step)
         .collect();
     assert!(all_same(&accepted.points, &moved));
-    if plate.damping == 0.0 && step.system.is_valid() {
+    if problem.damping == 0.0 && step.system.is_valid() {
         assert!(same(refused.gradient_norm, step.gradient_norm));
         assert_eq!(refused.weak_point_count, step.weak_point_count);
         assert!(same(refused.minimum_point_rcond, step.minimum_point_rcond));
@@ -48,11 +48,11 @@ fn check_step(plate: &Plate<'_>, step: &Step, refused: &Pass, accepted: &Pass) {
 /// Checks one case and says how it ended.
 fn check(seed: u64) -> usize {
     let case = case(seed);
-    let plate = case.plate();
-    let pass = |accept| refine_once(&plate, accept).expect("the baseline is the norm");
-    match (step(&plate), pass(false), pass(true)) {
+    let problem = case.problem();
+    let pass = |accept| refine_once(&problem, accept).expect("the baseline is the norm");
+    match (step(&problem), pass(false), pass(true)) {
         (Outcome::Done(step), Ok(refused), Ok(accepted)) => {
-            check_step(&plate, &step, &refused, &accepted);
+            check_step(&problem, &step, &refused, &accepted);
             0
         }
         (Outcome::NotProjectable(view, index), Err(place), Err(_)) => {

@@ -26,13 +26,13 @@ fn block(x: f64, y: f64, off: f64) -> Block {
     pixel_step::linearize_point(&rig(), &correspondence).expect("projectable")
 }
 
-const PLATE: [[f64; 2]; 5] = [[0.0, 0.0], [1.0, 0.0], [-1.0, 0.0], [0.0, 1.0], [0.0, -1.0]];
+const SAMPLE: [[f64; 2]; 5] = [[0.0, 0.0], [1.0, 0.0], [-1.0, 0.0], [0.0, 1.0], [0.0, -1.0]];
 
 #[test]
-fn the_sample_plate() {
+fn the_sample() {
     let mut system = System::new().expect("never refused");
     assert_eq!((system.counts, system.numbers[44]), ([0, 0, 1], 1.0));
-    for (index, [x, y]) in PLATE.into_iter().enumerate() {
+    for (index, [x, y]) in SAMPLE.into_iter().enumerate() {
         let off = if index == 0 { 1.0 } else { 0.0 };
         system.add(&block(x, y, off), 0.0).expect("taken in");
     }
@@ -45,7 +45,7 @@ fn the_sample_plate() {
 #[test]
 fn a_valid_system() {
     let mut system = System::new().expect("never refused");
-    for [x, y] in PLATE.into_iter().skip(1) {
+    for [x, y] in SAMPLE.into_iter().skip(1) {
         system.add(&block(x, y, 0.0), 1.0).expect("taken in");
     }
     system.finish_damping(1.0).expect("a good damping");

@@ -13,7 +13,7 @@ const TWO: u64 = 1024 << 52;
 const NAN: u64 = 0x7FF8 << 48;
 
 /// The fields of a run record before its points, and the bytes of a point.
-const HEAD: usize = 255;
+const HEADER: usize = 255;
 const POINT: usize = 67;
 
 /// So many entries are tried, over all inputs, before what was found has to do.
@@ -85,7 +85,7 @@ fn spans(kind: Kind, length: usize) -> Vec<Range<usize>> {
     }
     let mut spans = Vec::new();
     for points in (0..10).rev().map(|power| POINT << power) {
-        let starts = (HEAD..length).step_by(points);
+        let starts = (HEADER..length).step_by(points);
         let ends = starts.map(|start| start..start + points);
         spans.extend(ends.filter(|span| span.end <= length));
     }

@@ -192,7 +192,7 @@ fn system_results(source: &mut Source, digest: &mut Digest) {
 
 fn step_results(source: &mut Source, digest: &mut Digest) {
     let n = source.below(12);
-    let outcome = step(&generate::any_plate(source, n).plate());
+    let outcome = step(&generate::any_problem(source, n).problem());
     digest.flag(matches!(outcome, Outcome::Done(_)));
     if let Outcome::Done(step) = outcome {
         digest.numbers(&step.numbers());

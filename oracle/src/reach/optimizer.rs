@@ -6,7 +6,7 @@ use super::*;
 use crate::flat::rows;
 use crate::kernel::projection::Projection;
 use crate::numerics::refine::ConvergenceCriteria;
-use crate::optimizer::{Outcome, Pass, Plate, Refusal, Step, refuse};
+use crate::optimizer::{Outcome, Pass, Problem, Refusal, Step, refuse};
 use crate::projection::{Camera, pinhole};
 use crate::recorder;
 use crate::schur::{Block, Correspondence, System};
@@ -38,20 +38,20 @@ impl MeasurementModel for StepModel<'_> {
     }
 }
 
-fn pixel_model<'a>(plate: &Plate<'a>, cameras: &[Camera; 2]) -> PixelModel<'a> {
+fn pixel_model<'a>(problem: &Problem<'a>, cameras: &[Camera; 2]) -> PixelModel<'a> {
     PixelModel {
-        observations1: plate.view1.as_chunks().0,
-        observations2: plate.view2.as_chunks().0,
+        observations1: problem.view1.as_chunks().0,
+        observations2: problem.view2.as_chunks().0,
         cameras: [pinhole(&cameras[0]), pinhole(&cameras[1])],
     }
 }
 
-fn step_model<'a>(plate: &Plate<'a>) -> StepModel<'a> {
-    StepModel(pixel_model(plate, &plate.rig.cameras))
+fn step_model<'a>(problem: &Problem<'a>) -> StepModel<'a> {
+    StepModel(pixel_model(problem, &problem.rig.cameras))
 }
 
-fn points<'a>(plate: &Plate<'a>) -> &'a [[f64; 3]] {
-    plate.points.as_chunks().0
+fn points<'a>(problem: &Problem<'a>) -> &'a [[f64; 3]] {
+    problem.points.as_chunks().0
 }
 
 pub(crate) fn norm(vector: &[f64; 3]) -> f64 {
@@ -64,41 +64,41 @@ pub(crate) fn limit_pose_step(step: &[f64; 5], maximum: f64) -> [f64; 5] {
     step
 }
 
-fn reduced(plate: &Plate<'_>) -> Option<ReducedSystem> {
+fn reduced(problem: &Problem<'_>) -> Option<ReducedSystem> {
     super::reduced_system(
-        step_model(plate),
-        &pose(&plate.rig),
-        &rows(&plate.rig.basis),
-        plate.rig.baseline,
-        points(plate),
+        step_model(problem),
+        &pose(&problem.rig),
+        &rows(&problem.rig.basis),
+        problem.rig.baseline,
+        points(problem),
         Loss::L2,
-        NoiseModel::Given(plate.inverse_deviations),
-        plate.damping,
+        NoiseModel::Given(problem.inverse_deviations),
+        problem.damping,
     )
 }
 
-pub(crate) fn reduced_system(plate: &Plate<'_>) -> Option<System> {
-    reduced(plate).map(|reduced| system(&reduced))
+pub(crate) fn reduced_system(problem: &Problem<'_>) -> Option<System> {
+    reduced(problem).map(|reduced| system(&reduced))
 }
 
 /// Rows 6 to 9 by the original's own checks, which stand in this order.
-pub(crate) fn middle_rows(plate: &Plate<'_>) -> Option<Refusal> {
-    let points = points(plate);
+pub(crate) fn middle_rows(problem: &Problem<'_>) -> Option<Refusal> {
+    let points = points(problem);
     if let Err(error) = validate_points(points) {
         return Some(refusal(error));
     }
     if points.len() < MINIMUM_POINTS {
         return Some(refuse(7, 0, 0));
     }
-    pixel_model(plate, &[ANY_CAMERA; 2])
+    pixel_model(problem, &[ANY_CAMERA; 2])
         .validate(points.len())
-        .and_then(|()| projectable(plate))
+        .and_then(|()| projectable(problem))
         .err()
         .map(refusal)
 }
 
-fn projectable(plate: &Plate<'_>) -> Result<(), BundleAdjustmentError> {
-    validate_projection_domain(step_model(plate), &pose(&plate.rig), points(plate))
+fn projectable(problem: &Problem<'_>) -> Result<(), BundleAdjustmentError> {
+    validate_projection_domain(step_model(problem), &pose(&problem.rig), points(problem))
 }
 
 fn refusal(error: BundleAdjustmentError) -> Refusal {
@@ -111,12 +111,12 @@ fn refusal(error: BundleAdjustmentError) -> Refusal {
 }
 
 /// The part of `refine_impl` from `reduced_system` to `predicted_reduction`.
-pub(crate) fn step(plate: &Plate<'_>) -> Outcome {
-    if let Err(error) = projectable(plate) {
+pub(crate) fn step(problem: &Problem<'_>) -> Outcome {
+    if let Err(error) = projectable(problem) {
         let Refusal { view, index, .. } = refusal(error);
         return Outcome::NotProjectable(view, index);
     }
-    let Some(reduced) = reduced(plate).filter(ReducedSystem::is_valid) else {
+    let Some(reduced) = reduced(problem).filter(ReducedSystem::is_valid) else {
         return Outcome::Linearization;
     };
     let gradient_norm = reduced.scaled_gradient_inf_norm();
@@ -125,10 +125,10 @@ pub(crate) fn step(plate: &Plate<'_>) -> Outcome {
     };
     let mut pose_step = raw_step.map(|value| -value);
     super::limit_pose_step(&mut pose_step, 0.5);
-    let Some((rms, damping_norm)) = point_sums(plate, &pose_step) else {
+    let Some((rms, damping_norm)) = point_sums(problem, &pose_step) else {
         return Outcome::Candidate;
     };
-    let Some(point_steps) = point_steps(plate, &pose_step) else {
+    let Some(point_steps) = point_steps(problem, &pose_step) else {
         return Outcome::Candidate;
     };
     let flat = system(&reduced);
@@ -141,26 +141,26 @@ pub(crate) fn step(plate: &Plate<'_>) -> Outcome {
         minimum_point_rcond: flat.minimum_point_rcond,
         point_step_rms: rms,
         point_damping_norm: damping_norm,
-        predicted_reduction: reduced.predicted_reduction(&pose_step, plate.damping, damping_norm),
+        predicted_reduction: reduced.predicted_reduction(&pose_step, problem.damping, damping_norm),
         point_steps,
         system: flat,
     }))
 }
 
 /// Step RMS and damping norm from `candidate_cost` itself.
-fn point_sums(plate: &Plate<'_>, pose_step: &[f64; POSE_DIMENSION]) -> Option<(f64, f64)> {
-    let pose = pose(&plate.rig);
+fn point_sums(problem: &Problem<'_>, pose_step: &[f64; POSE_DIMENSION]) -> Option<(f64, f64)> {
+    let pose = pose(&problem.rig);
     recorder::begin_candidate();
     let sums = candidate_cost(
-        step_model(plate),
+        step_model(problem),
         &pose,
         &pose,
-        &rows(&plate.rig.basis),
-        plate.rig.baseline,
-        points(plate),
+        &rows(&problem.rig.basis),
+        problem.rig.baseline,
+        points(problem),
         Loss::L2,
-        NoiseModel::Given(plate.inverse_deviations),
-        plate.damping,
+        NoiseModel::Given(problem.inverse_deviations),
+        problem.damping,
         pose_step,
     );
     recorder::end_candidate();
@@ -168,18 +168,18 @@ fn point_sums(plate: &Plate<'_>, pose_step: &[f64; POSE_DIMENSION]) -> Option<(f
 }
 
 /// Every point's step, as `candidate_cost` and `commit_points` compute it.
-fn point_steps(plate: &Plate<'_>, pose_step: &[f64; POSE_DIMENSION]) -> Option<Vec<f64>> {
-    let mut steps = Vec::with_capacity(plate.points.len());
-    for (index, point) in points(plate).iter().enumerate() {
+fn point_steps(problem: &Problem<'_>, pose_step: &[f64; POSE_DIMENSION]) -> Option<Vec<f64>> {
+    let mut steps = Vec::with_capacity(problem.points.len());
+    for (index, point) in points(problem).iter().enumerate() {
         let correspondence = Correspondence {
             point: *point,
-            view1: plate.view1.as_chunks().0[index],
-            view2: plate.view2.as_chunks().0[index],
-            inverse_deviation: plate.inverse_deviations[index],
+            view1: problem.view1.as_chunks().0[index],
+            view2: problem.view2.as_chunks().0[index],
+            inverse_deviation: problem.inverse_deviations[index],
         };
-        let block: Block = crate::schur::linearize_point(&plate.rig, &correspondence).ok()?;
+        let block: Block = crate::schur::linearize_point(&problem.rig, &correspondence).ok()?;
         let (step, _) =
-            crate::schur::point_step_with_damping_norm(&block, plate.damping, pose_step)?;
+            crate::schur::point_step_with_damping_norm(&block, problem.damping, pose_step)?;
         steps.extend(step);
     }
     Some(steps)
@@ -187,16 +187,16 @@ fn point_steps(plate: &Plate<'_>, pose_step: &[f64; POSE_DIMENSION]) -> Option<V
 
 /// Two passes of `refine_impl`: the first fails at damping NaN, which puts the
 /// plate's damping in; the second is the step. The gradient test never stops it.
-pub(crate) fn refine_once(plate: &Plate<'_>, accept: bool) -> Result<Pass, (usize, usize)> {
+pub(crate) fn refine_once(problem: &Problem<'_>, accept: bool) -> Result<Pass, (usize, usize)> {
     let never = ConvergenceCriteria::new(f64::NAN, f64::NAN, f64::NAN);
-    let mut moved = points(plate).to_vec();
-    recorder::begin(rows(&plate.rig.basis), plate.damping, accept);
+    let mut moved = points(problem).to_vec();
+    recorder::begin(rows(&problem.rig.basis), problem.damping, accept);
     let report = refine_impl(
-        pose(&plate.rig),
+        pose(&problem.rig),
         &mut moved,
-        step_model(plate),
+        step_model(problem),
         Options::l2(2).with_convergence(never),
-        NoiseModel::Given(plate.inverse_deviations),
+        NoiseModel::Given(problem.inverse_deviations),
     );
     let record = recorder::finish();
     let report = report.map_err(|error| {

@@ -12,7 +12,7 @@ use crate::optimizer::first_rows;
 
 /// A plate as the original holds it.
 pub struct Prepared<'a> {
-    plate: Plate<'a>,
+    problem: Problem<'a>,
     model: PixelModel<'a>,
     pose: RelativePose,
     basis: [[f64; 3]; 2],
@@ -32,30 +32,30 @@ pub struct OwnSystem(ReducedSystem);
 
 impl<'a> Prepared<'a> {
     /// The lengths must belong to one count.
-    pub fn new(plate: &Plate<'a>) -> Self {
+    pub fn new(problem: &Problem<'a>) -> Self {
         Self {
-            plate: *plate,
-            model: pixel_model(plate, &plate.rig.cameras),
-            pose: pose(&plate.rig),
-            basis: rows(&plate.rig.basis),
+            problem: *problem,
+            model: pixel_model(problem, &problem.rig.cameras),
+            pose: pose(&problem.rig),
+            basis: rows(&problem.rig.basis),
         }
     }
 
     fn noise(&self) -> NoiseModel<'a> {
-        NoiseModel::Given(self.plate.inverse_deviations)
+        NoiseModel::Given(self.problem.inverse_deviations)
     }
 
     /// `pixel_projection` into the first camera.
     #[inline(never)]
     pub fn project(&self, index: usize) -> Option<OwnProjection> {
-        let (camera, point) = (self.model.cameras[0], &points(&self.plate)[index]);
+        let (camera, point) = (self.model.cameras[0], &points(&self.problem)[index]);
         pixel_projection(camera, &self.model.observations1[index], point).map(OwnProjection)
     }
 
     /// `linearize_point`.
     #[inline(never)]
     pub fn block(&self, index: usize) -> Option<OwnBlock> {
-        let point = &points(&self.plate)[index];
+        let point = &points(&self.problem)[index];
         self.linearized(index, point).map(OwnBlock)
     }
 
@@ -64,7 +64,7 @@ impl<'a> Prepared<'a> {
             self.model,
             &self.pose,
             &self.basis,
-            self.plate.rig.baseline,
+            self.problem.rig.baseline,
             point,
             index,
             Loss::L2,
@@ -95,7 +95,7 @@ impl<'a> Prepared<'a> {
             minimum_point_rcond: flat.minimum_point_rcond,
             point_step_rms: rms,
             point_damping_norm: norm,
-            predicted_reduction: reduced.predicted_reduction(&pose_step, self.plate.damping, norm),
+            predicted_reduction: reduced.predicted_reduction(&pose_step, self.problem.damping, norm),
             point_steps: Vec::new(),
             system: flat,
         })
@@ -104,8 +104,8 @@ impl<'a> Prepared<'a> {
     /// Rows 1 to 9, those from 6 on by the original's own checks.
     #[inline(never)]
     pub fn accepted(&self, room: usize) -> bool {
-        let points = points(&self.plate);
-        first_rows(&self.plate, room).is_none()
+        let points = points(&self.problem);
+        first_rows(&self.problem, room).is_none()
             && validate_points(points).is_ok()
             && points.len() >= MINIMUM_POINTS
             && self.model.validate(points.len()).is_ok()
@@ -118,23 +118,23 @@ impl<'a> Prepared<'a> {
             self.model,
             &self.pose,
             &self.basis,
-            self.plate.rig.baseline,
-            points(&self.plate),
+            self.problem.rig.baseline,
+            points(&self.problem),
             Loss::L2,
             self.noise(),
-            self.plate.damping,
+            self.problem.damping,
         )
     }
 
     /// The loop of `candidate_cost` without the candidate: its step RMS and
     /// damping norm, and each step kept.
     fn write_steps(&self, pose_step: &[f64; 5], room: &mut [f64]) -> Option<(f64, f64)> {
-        let points = points(&self.plate);
+        let points = points(&self.problem);
         let (mut squared, mut norms) = (0.0, 0.0);
         let places = room.as_chunks_mut().0;
         for ((index, point), place) in points.iter().enumerate().zip(places) {
             let local = self.linearized(index, point)?;
-            let (step, norm) = point_step_with_damping_norm(&local, self.plate.damping, pose_step)?;
+            let (step, norm) = point_step_with_damping_norm(&local, self.problem.damping, pose_step)?;
             *place = step;
             squared += squared_norm(&step);
             norms += norm;

@@ -2,7 +2,7 @@
 //! to `predicted_reduction`. Seeded problems are too small for row 2, which the
 //! walk brings.
 
-use oracle::optimizer::{Plate, whole_step};
+use oracle::optimizer::{Problem, whole_step};
 use oracle::schur::Rig;
 use pixel_step::{Refusal, slices};
 
@@ -74,7 +74,7 @@ fn step(lent: &Lent<'_>, rooms: &mut Rooms<'_>) -> u64 {
 
 fn stepped(input: &Input) -> Answer {
     let [points, view1, view2, deviations] = [0, 1, 2, 3].map(|place| input.list(place));
-    let problem = Plate {
+    let problem = Problem {
         rig: Rig::from_numbers(&input.numbers(4)),
         damping: input.number(5),
         points: &points,

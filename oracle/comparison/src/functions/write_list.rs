@@ -1,7 +1,7 @@
 //! `write_list`: the list of a run record, the line of a refused one included,
 //! in rooms that it fits and in shorter ones, which have to stay as they were.
 
-use oracle::generate::{Source, plate};
+use oracle::generate::{Source, problem};
 use oracle::record;
 use oracle::records::{any_record, starts};
 
@@ -42,7 +42,7 @@ const EVERY_CUT_AND_START: Walk = Walk {
 };
 
 fn good_record() -> Vec<u8> {
-    let mut case = plate(&mut Source::new(1), POINTS);
+    let mut case = problem(&mut Source::new(1), POINTS);
     case.damping = 0.0;
     oracle::records::record(&case)
 }

@@ -14,7 +14,7 @@ pub const MANY_POINTS: Walk = Walk {
     input: |case, source| {
         let rows = case as u32 / 2;
         lent(&match case % 2 {
-            0 if rows < 4 => generate::plate(source, 65_535),
+            0 if rows < 4 => generate::problem(source, 65_535),
             0 => spoilt(source, 65_535),
             _ => refused(source, &[2, rows + 3]).unwrap_or_else(|| two_short(source)),
         })
@@ -34,10 +34,10 @@ pub fn problem(source: &mut Source) -> Input {
     let case = match source.below(20) {
         0..=10 => broken(source, 1),
         11 => broken(source, 2),
-        12..=16 => generate::any_plate(source, count),
+        12..=16 => generate::any_problem(source, count),
         17 => generate::faulty(source, count, Fault::Scaled),
         18 => spoilt(source, count),
-        _ => generate::plate(source, count),
+        _ => generate::problem(source, count),
     };
     let mut input = lent(&case);
     if source.once_in(20) {

@@ -43,7 +43,7 @@ fn bad_deviation(source: &mut Source) -> f64 {
 
 /// A sound correspondence that one of the views hardly sees, or not at all.
 fn unseen(source: &mut Source) -> (Rig, Correspondence) {
-    let case = generate::plate(source, 1);
+    let case = generate::problem(source, 1);
     let (mut rig, mut correspondence) = (case.rig, case.correspondence(0));
     let depth = match source.below(4) {
         0 => zero(source),

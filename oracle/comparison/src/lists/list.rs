@@ -56,11 +56,11 @@ impl List {
 
 /// Calls with correspondences of two plates, and of none, in any order.
 fn adds(source: &mut Source, count: usize, damping: f64) -> Vec<Add> {
-    let plates = [0; 2].map(|_| generate::any_plate(source, count));
+    let problems = [0; 2].map(|_| generate::any_problem(source, count));
     let add = |index| {
         let (rig, correspondence) = match source.below(8) {
-            0..=3 => (plates[0].rig, plates[0].correspondence(index)),
-            4..=6 => (plates[1].rig, plates[1].correspondence(index)),
+            0..=3 => (problems[0].rig, problems[0].correspondence(index)),
+            4..=6 => (problems[1].rig, problems[1].correspondence(index)),
             _ => inputs::correspondence(source),
         };
         let damping = if source.once_in(6) {
