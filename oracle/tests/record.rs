@@ -50,7 +50,7 @@ fn good(points: usize) -> Case {
 fn document_01() {
     let expected = "run 5 0000000000000000\np 0 n\np 1 g\np 2 g\np 3 g\np 4 g\n\
                     sum 3FE0000000000000 3FF0000000000000 1 n x\n";
-    assert_eq!(text(&sample("document-01.problem")), expected);
+    assert_eq!(text(&sample("document-01.plate")), expected);
 }
 
 /// Every stored list is given, and together they show every answer there is.
@@ -60,7 +60,7 @@ fn samples() {
     for entry in fs::read_dir(folder().join("samples")).expect("a folder") {
         let path = entry.expect("an entry").path();
         let record = match path.extension().and_then(|end| end.to_str()) {
-            Some("problem") => tool("pack", &path),
+            Some("plate") => tool("pack", &path),
             Some("record") => fs::read(&path).expect("a record"),
             _ => continue,
         };
@@ -259,7 +259,7 @@ fn text_and_back() {
         case.places().into_iter().for_each(|v| *v = source.mixed());
         let bytes = record(&case);
         let text = tool("unpack", &file(&format!("{number}.record"), &bytes));
-        let problem = file(&format!("{number}.problem"), &text);
+        let problem = file(&format!("{number}.plate"), &text);
         assert!(tool("pack", &problem) == bytes, "{}", problem.display());
     }
 }
@@ -289,7 +289,7 @@ fn bad_files_are_named() {
         ),
     ];
     for (number, (text, message)) in texts.iter().enumerate() {
-        let path = file(&format!("bad-{number}.problem"), text.as_bytes());
+        let path = file(&format!("bad-{number}.plate"), text.as_bytes());
         refuses("pack", &path, message);
     }
     refuses(
