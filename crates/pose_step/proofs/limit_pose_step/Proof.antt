@@ -1,17 +1,24 @@
 -- `pose_step::limit_pose_step` meets its contract. Assumes nothing.
-use Rattle.pose_step.specs.PoseStep.{limitPoseStep}
-use mathlib.Core.Path.{refl}
+use Rattle.number.specs.Binary64.{_⊘_, half}
+use Rattle.pose_step.specs.PoseStep.{stepLength, scaled, limitPoseStep}
+use mathlib.Core.Bool.{Bool, cond}
+use mathlib.Core.List.{List}
+use mathlib.Core.Path.{_≡_, sym, _∙_}
+use lib.Ieee.{Float, lt}
 use borrow.Author.Needs.{needs}
 use Rattle.pose_step.proofs.limit_pose_step.Statement.{statement}
 use Rattle.pose_step.proofs.limit_pose_step.Tie as tie
 
-returns : tie.Need-returns
+-- the limited step, by whether the length is above the limit
+limited : (x : List Float) (length : Float) (above : Bool) → length ≡ stepLength x → lt half length ≡ above → limitPoseStep x ≡ cond above (scaled x (half ⊘ length)) x
 unfolding limitPoseStep
-returns c = rw (c .scaled .ensures, ← c .before .before .step-length .ensures, c .before .if1 .taken) refl
+limited x length above e t = rw (← e, t)
+
+returns : tie.Need-returns
+returns c = c .scaled .ensures ∙ sym (limited _ _ _ (c .before .before .step-length .ensures) (c .before .if1 .taken))
 
 returns-2 : tie.Need-returns-2
-unfolding limitPoseStep
-returns-2 c = rw (← c .before .step-length .ensures, c .if1 .left) refl
+returns-2 c = sym (limited _ _ _ (c .before .step-length .ensures) (c .if1 .left))
 
 pub limit-pose-step-spec : {M : Type 1} → statement M
 limit-pose-step-spec =
