@@ -11,6 +11,8 @@ pub fn replay() {
         &[3, 9, 6, 7, 3, 1, 5],
         calls::MATRICES,
     );
+    // Two good lines, and ten with a fault each, which have to be found.
+    files::replay(b"faulty.txt", &[9], &[3], calls::MATRICES);
 }
 
 pub fn answer(call: usize, x: &[f64], out: &mut [f64]) -> u64 {
