@@ -15,12 +15,12 @@ use Rattle.point_damping.specs.Damping.{goodDamping}
 use Rattle.pose_damping.specs.PoseDamping.{dampedHessian}
 use Rattle.reduced_system.specs.Model.{newSystem, withHessian, finishDamping, isValid}
 use Rattle.checks.specs.Checks.{maxPoints}
-use Rattle.schur.specs.System.{maxBlocks}
-use Rattle.schur.specs.Claim.{WeakCount}
-use Rattle.schur.specs.Calls.{Inputs, Call, atDamping, after, factors, smallRcond, atZero, blocksIn, all, filter}
+use Rattle.list_of_adds.specs.System.{maxBlocks}
+use Rattle.list_of_adds.specs.Claim.{WeakCount}
+use Rattle.list_of_adds.specs.Calls.{Inputs, Call, atDamping, after, factors, smallRcond, atZero, blocksIn, all, filter}
 use Rattle.linearization.specs.declared.linearize.LocalLinearization.{LocalLinearization}
 use Rattle.reduced_system.specs.declared.ReducedSystem.{ReducedSystem}
-use Rattle.schur.proofs.Claim.{claim}
+use Rattle.list_of_adds.proofs.Claim.{claim}
 use Rattle.correspondences.specs.Problem.{Problem, count, correspondenceAt}
 use Rattle.checks.proofs.Passed.{both-hold}
 use Rattle.assembly.specs.Assembly.{blockOf, blockAt, systemTo, reducedSystem}

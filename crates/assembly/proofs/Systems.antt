@@ -8,7 +8,7 @@ use Rattle.refusal.specs.Refused.{none, isNone}
 use Rattle.refusal.specs.declared.Refusal.{Refusal}
 use Rattle.linearization.specs.declared.linearize.LocalLinearization.{LocalLinearization}
 use Rattle.views.specs.declared.Correspondence.{Correspondence}
-use Rattle.schur.specs.System.{add}
+use Rattle.list_of_adds.specs.System.{add}
 use Rattle.reduced_system.specs.Model.{newSystem, finishDamping}
 use Rattle.reduced_system.specs.declared.ReducedSystem.{ReducedSystem}
 use Rattle.reduced_system.specs.declared.Added.{Added}

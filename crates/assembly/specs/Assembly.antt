@@ -10,7 +10,7 @@ use Rattle.views.specs.declared.Correspondence.{Correspondence}
 use Rattle.correspondences.specs.Problem.{Problem, count, correspondenceAt}
 use Rattle.checks.specs.Checks as Checks
 use Rattle.correspondences.specs.declared.Rig.{Rig}
-use Rattle.schur.specs.System.{add}
+use Rattle.list_of_adds.specs.System.{add}
 use Rattle.reduced_system.specs.Model.{newSystem, finishDamping}
 use Rattle.reduced_system.specs.declared.ReducedSystem.{ReducedSystem}
 use Rattle.assembly.specs.declared.Reduced.{Reduced}

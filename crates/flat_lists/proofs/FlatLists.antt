@@ -21,13 +21,13 @@ use Rattle.reduced_system.specs.declared.ReducedSystem.{ReducedSystem}
 use Rattle.reduced_system.specs.declared.Added.{Added}
 use Rattle.reduced_system.specs.Model.{newSystem}
 use Rattle.block_elimination.specs.BlockElimination.{isZero, notEliminated, eliminated, eliminate}
-use Rattle.schur.specs.System.{maxBlocks, takenWith, takenBy, taken, add}
-use Rattle.schur.specs.Calls.{Inputs, made, Call, atDamping, atRefused, added, results, after}
+use Rattle.list_of_adds.specs.System.{maxBlocks, takenWith, takenBy, taken, add}
+use Rattle.list_of_adds.specs.Calls.{Inputs, made, Call, atDamping, atRefused, added, results, after}
 use Rattle.answers.specs.Answers.{code, stored}
 use Rattle.flat.specs.Flat.{block, system}
 use Rattle.flat_numbers.specs.FlatNumbers.{blockNumbers, systemNumbers, systemCounts}
 use Rattle.system_calls.specs.Calls as Calls
-use Rattle.system_calls.specs.Calls.{Change, change}
+use Rattle.system_calls.specs.Calls.{SystemAnswer, systemAnswer}
 use Rattle.flat_lists.specs.FlatLists.{called, answers, left, Reaches}
 use Rattle.flat_lists.proofs.ReadBack.{Sized, numbers-long, counts-long, system-read, SizedBlock, block-long, unrefused, block-read}
 
@@ -82,7 +82,7 @@ add-sized s b d k =
 -- ---- one call
 
 -- what it hands back, as the C interface has it
-abbrev written : Added → Change
+abbrev written : Added → SystemAnswer
 written r = record { number = code (r .refusal); numbers = systemNumbers (r .system); counts = systemCounts (r .system) }
 
 -- a refused add leaves the system, and so stores what stands there
@@ -102,13 +102,13 @@ add-stored f s b d =
 
 -- the lengths fit, and the numbers are those of a system and a block
 add-of : (x : List Float) (counts : List ℕ) (y : List Float) (d : Float) (r : Added) → length x ≡ 45 → length counts ≡ 3 → length y ≡ 59
-    → add (system x counts) (block y) d ≡ r → Calls.add x counts y d ≡ change true (r .refusal) (r .system) x counts
+    → add (system x counts) (block y) d ≡ r → Calls.add x counts y d ≡ systemAnswer true (r .refusal) (r .system) x counts
 unfolding Calls.add
 add-of x counts y d r e f g h = rw (e, f, g, h) refl
 
 add-written : (s : ReducedSystem) (b : LocalLinearization) (d : Float) → Sized s → SizedBlock b
     → Calls.add (systemNumbers s) (systemCounts s) (blockNumbers b) d ≡ written (add s b d)
-unfolding change
+unfolding systemAnswer
 add-written s b d k l =
     add-of (systemNumbers s) (systemCounts s) (blockNumbers b) d (add s b d) (numbers-long s k) (counts-long s) (block-long b l)
     (ap₂ (λ (t : ReducedSystem) (c : LocalLinearization). add t c d) (system-read s k) (block-read b l) ∙ add-unrefused s b d)
@@ -134,13 +134,13 @@ left-numbers d r [] k = (refl, refl)
 left-numbers d r (c ∷ cs) k =
     let e = called-written d r c k in
     let h = left-numbers d (added d (r .system) c) cs (added-sized d (r .system) c k) in
-    (ap (λ (m : Change). left d m cs .numbers) e ∙ h .0, ap (λ (m : Change). left d m cs .counts) e ∙ h .1)
+    (ap (λ (m : SystemAnswer). left d m cs .numbers) e ∙ h .0, ap (λ (m : SystemAnswer). left d m cs .counts) e ∙ h .1)
 
 codes-back : (d : Float) (r : Added) (cs : List Call) → Sized (r .system)
-    → map (λ (a : Change). a .number) (answers d (written r) cs) ≡ map (λ (a : Added). code (a .refusal)) (results d (r .system) cs)
+    → map (λ (a : SystemAnswer). a .number) (answers d (written r) cs) ≡ map (λ (a : Added). code (a .refusal)) (results d (r .system) cs)
 codes-back d r [] k = refl
 codes-back d r (c ∷ cs) k =
-    ap (λ (m : Change). m .number ∷ map (λ (a : Change). a .number) (answers d m cs)) (called-written d r c k)
+    ap (λ (m : SystemAnswer). m .number ∷ map (λ (a : SystemAnswer). a .number) (answers d m cs)) (called-written d r c k)
     ∙ ap (λ (l : List ℕ). code (added d (r .system) c .refusal) ∷ l) (codes-back d (added d (r .system) c) cs (added-sized d (r .system) c k))
 
 -- a new system is written as one that an add handed back
@@ -148,7 +148,7 @@ abbrev begun : Added
 begun = record { system = newSystem; refusal = none }
 
 new-written : (x : List Float) (counts : List ℕ) → length x ≡ 45 → length counts ≡ 3 → Calls.newSystem x counts ≡ written begun
-unfolding Calls.newSystem change stored isNone
+unfolding Calls.newSystem systemAnswer stored isNone
 new-written x counts e f = rw (e, f) refl
 
 begun-reaches : (d : Float) (calls : List Call) → Reaches d calls (written begun)

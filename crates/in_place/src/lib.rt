@@ -3,7 +3,7 @@
 
 // The system lent by its owner and changed there, as the Rust's `add(&mut self)` does.
 ghost use mathlib.Core.Path.{_≡_};
-ghost use Rattle.schur.specs.System as System;
+ghost use Rattle.list_of_adds.specs.System as System;
 use linearization::LocalLinearization;
 use reduced_system::ReducedSystem;
 use refusal::Refusal;

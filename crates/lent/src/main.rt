@@ -1,7 +1,7 @@
 // The same blocks through both forms of `add`: the system lent and changed in place, and the system by value.
 // Each line has a figure of the one, then of the other, as patterns of sixteen capital digits: the two columns have to be equal.
 ghost use mathlib.Core.Path.{_≡_};
-ghost use Rattle.schur.specs.System as System;
+ghost use Rattle.list_of_adds.specs.System as System;
 use linearization::LocalLinearization;
 use projection::PinholeCamera;
 use reduced_system::Added;

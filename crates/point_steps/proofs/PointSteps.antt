@@ -12,7 +12,7 @@ use Rattle.point_block.proofs.Laws.{lone-factors}
 use Rattle.linearization.specs.Linearize.{pointTerms}
 use Rattle.linearization.specs.declared.linearize.LocalLinearization.{LocalLinearization}
 use Rattle.reduced_system.specs.Model.{isValid}
-use Rattle.schur.specs.Calls.{factors}
+use Rattle.list_of_adds.specs.Calls.{factors}
 use Rattle.point_step.specs.PointStep.{stepped, stepOfTerms, pointStep}
 use Rattle.correspondences.specs.Problem.{Problem, count}
 use Rattle.checks.specs.Checks.{maxPoints}

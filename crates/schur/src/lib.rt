@@ -4,7 +4,7 @@
 // A block taken into the reduced system, with its point eliminated: `add` of kernel/two_view/schur.rs.
 ghost use mathlib.Core.Path.{_≡_};
 ghost use Prim.Native.Nat.{_<_};
-ghost use Rattle.schur.specs.System as System;
+ghost use Rattle.list_of_adds.specs.System as System;
 use block_elimination::Change;
 use linearization::LocalLinearization;
 use reduced_system::Added;

@@ -11,18 +11,18 @@ use Rattle.refusal.specs.declared.Refusal.{Refusal}
 use Rattle.reduced_system.specs.declared.ReducedSystem.{ReducedSystem}
 use Rattle.flat_numbers.specs.FlatNumbers.{systemNumbers, systemCounts}
 use Rattle.answers.specs.Answers.{code, lengthsCode, stored}
-use Rattle.system_calls.specs.Calls.{change, Changed}
+use Rattle.system_calls.specs.Calls.{systemAnswer, Changed}
 
 -- row 1
 pub too-short-system : (fits : Bool) (refusal : Refusal) (s : ReducedSystem) (x : List Float) (counts : List ℕ) (number : ℕ) → not fits ≡ true
-    → number ≡ lengthsCode → Changed number x counts (change fits refusal s x counts)
-unfolding change
+    → number ≡ lengthsCode → Changed number x counts (systemAnswer fits refusal s x counts)
+unfolding systemAnswer
 too-short-system fits refusal s x counts number t e = rw (not-true fits t) (record { same-number = e; same-numbers = refl; same-counts = refl })
 
 pub changes : (fits : Bool) (refusal r : Refusal) (s t : ReducedSystem) (x after : List Float) (counts now : List ℕ) (number : ℕ) → not fits ≡ false
     → r ≡ refusal → t ≡ s → (number ≡ code r) × (after ≡ stored r (systemNumbers t) x) × (now ≡ stored r (systemCounts t) counts)
-    → Changed number after now (change fits refusal s x counts)
-unfolding change
+    → Changed number after now (systemAnswer fits refusal s x counts)
+unfolding systemAnswer
 changes fits refusal r s t x after counts now number f p q e =
     rw (not-false fits f, ← p, ← q) (record { same-number = e .0; same-numbers = e .1; same-counts = e .2 })
 

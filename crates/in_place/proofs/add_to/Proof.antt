@@ -42,7 +42,7 @@ use denote.Triple.Clauses.{ensured, lasts}
 use denote.Exit.{yes}
 use Rattle.refusal.proofs.Refusal as R
 use Rattle.refusal.proofs.Refusal.Laws as R′
-use Rattle.schur.specs.System as System
+use Rattle.list_of_adds.specs.System as System
 use Rattle.linearization.specs.declared.linearize.LocalLinearization.{LocalLinearization}
 use Rattle.reduced_system.specs.declared.ReducedSystem.{ReducedSystem}
 use Rattle.reduced_system.specs.declared.Added.{Added}

@@ -1,5 +1,5 @@
 -- `schur::add` meets its contract. Assumes nothing.
-use Rattle.schur.proofs.Adding.{below, at-most, adds-no-damping, adds-no-weak, adds-no-more, adds-block}
+use Rattle.list_of_adds.proofs.Adding.{below, at-most, adds-no-damping, adds-no-weak, adds-no-more, adds-block}
 use borrow.Author.Needs.{needs}
 use Rattle.schur.proofs.add.Statement.{statement}
 use Rattle.schur.proofs.add.Tie as tie

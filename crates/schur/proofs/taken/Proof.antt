@@ -1,5 +1,5 @@
 -- `schur::taken` meets its contract. Assumes nothing.
-use Rattle.schur.specs.System.{taken}
+use Rattle.list_of_adds.specs.System.{taken}
 use mathlib.Core.Path.{refl}
 use borrow.Author.Needs.{needs}
 use Rattle.schur.proofs.taken.Statement.{statement}

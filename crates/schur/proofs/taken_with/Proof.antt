@@ -1,5 +1,5 @@
 -- `schur::taken_with` meets its contract. Assumes nothing.
-use Rattle.schur.proofs.Adding.{takes-with}
+use Rattle.list_of_adds.proofs.Adding.{takes-with}
 use native.Mathlib.Omega.{arith}
 use borrow.Author.Needs.{needs}
 use Rattle.schur.proofs.taken_with.Statement.{statement}

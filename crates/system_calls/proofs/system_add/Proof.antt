@@ -1,7 +1,7 @@
 -- `system_calls::system_add` meets its contract. Assumes nothing.
 use mathlib.Core.Path.{_≡_, ap, _∙_}
 use lib.ListN.{length}
-use Rattle.schur.specs.System as System
+use Rattle.list_of_adds.specs.System as System
 use Rattle.linearization.specs.declared.linearize.LocalLinearization.{LocalLinearization}
 use Rattle.reduced_system.specs.declared.Added.{Added}
 use Rattle.reduced_system.specs.declared.ReducedSystem.{ReducedSystem}

@@ -10,7 +10,7 @@ use Rattle.linearization.specs.declared.linearize.LocalLinearization.{LocalLine
 use Rattle.reduced_system.specs.declared.ReducedSystem.{ReducedSystem}
 use Rattle.reduced_system.specs.declared.Added.{Added}
 use Rattle.reduced_system.specs.Model.{newSystem}
-use Rattle.schur.specs.Calls.{Call, added, results, after, afterBlocks, Tally, start, factors, smallRcond, atZero, tally, refusals, blocksIn, all, filter}
+use Rattle.list_of_adds.specs.Calls.{Call, added, results, after, afterBlocks, Tally, start, factors, smallRcond, atZero, tally, refusals, blocksIn, all, filter}
 
 -- each handed-back system is what the definition of `add` gives for the call and the system handed back before
 abbrev pub CallByCall : Float → ReducedSystem → List Call → List Added → Type 0

@@ -18,7 +18,7 @@ use Rattle.views.specs.declared.Correspondence.{Correspondence}
 use Rattle.reduced_system.specs.declared.ReducedSystem.{ReducedSystem}
 use Rattle.reduced_system.specs.declared.Added.{Added}
 use Rattle.linearization.specs.Linearize.{linearizePoint}
-use Rattle.schur.specs.System.{maxBlocks, add}
+use Rattle.list_of_adds.specs.System.{maxBlocks, add}
 
 -- what a block is made from
 pub record Inputs : Type 0 where

@@ -18,7 +18,7 @@ use Rattle.reduced_system.specs.declared.ReducedSystem.{ReducedSystem}
 use Rattle.block_elimination.specs.declared.Change.{Change}
 use Rattle.gradient_norm.specs.GradientNorm.{pointGradientNorm}
 use Rattle.pose_model.specs.PoseModel.{sum5, diagonal5}
-use Rattle.schur.specs.System.{maxBlocks, takenWith, taken, add}
+use Rattle.list_of_adds.specs.System.{maxBlocks, takenWith, taken, add}
 
 pub below : (m n : ℕ) → not (ltb m n) ≡ false → m < n
 below m n h = ltb→lt m n (rw (not-false (ltb m n) h) tt)

@@ -28,10 +28,10 @@ use Rattle.reduced_system.specs.declared.Added.{Added}
 use Rattle.reduced_system.specs.Model.{newSystem}
 use Rattle.elimination.specs.Elimination.{reducedHessian, reducedGradient, pointReduction}
 use Rattle.block_elimination.specs.BlockElimination.{isZero, notEliminated, eliminated, eliminate}
-use Rattle.schur.specs.System.{maxBlocks, raised, takenWith, takenBy, taken, add}
-use Rattle.schur.specs.Calls.{Inputs, made, Call, atDamping, atRefused, added, results, after, afterBlocks, Tally, factors, smallRcond, notFull, takenIn, tally, refusals, blocksIn, all, filter}
+use Rattle.list_of_adds.specs.System.{maxBlocks, raised, takenWith, takenBy, taken, add}
+use Rattle.list_of_adds.specs.Calls.{Inputs, made, Call, atDamping, atRefused, added, results, after, afterBlocks, Tally, factors, smallRcond, notFull, takenIn, tally, refusals, blocksIn, all, filter}
 use Rattle.linearization.proofs.Costs.{Costs, made-costs}
-use Rattle.schur.specs.Claim.{CallByCall, final, SameEquations, Further, Claim}
+use Rattle.list_of_adds.specs.Claim.{CallByCall, final, SameEquations, Further, Claim}
 
 -- ---- what one call hands back
 
