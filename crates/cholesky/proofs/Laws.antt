@@ -2,15 +2,15 @@
 use mathlib.Core.Path.{_≡_, refl}
 use mathlib.Core.Bool.{Bool, true, false, not}
 use borrow.Author.Tests.{not-true, not-false}
-use mathlib.Core.List.{List, [], _∷_}
+use mathlib.Core.List.{List}
 use lib.Ieee.{Float}
-use Rattle.number.specs.Binary64.{zero}
 use Rattle.cholesky.specs.declared.Scale.{Scale}
 use Rattle.cholesky.specs.declared.Factor.{Factor}
 use Rattle.cholesky.specs.Cholesky.{scaleOf, scaledOf, choleskyOf, goodPivots, inverseOf, invert}
+use Rattle.number.specs.Vectors.{zeros}
 
 module _ (m d : List Float) (scale : Scale) (c : Factor) (b : Bool) (e : scale ≡ scaleOf d) (f : c ≡ choleskyOf (scaledOf m scale)) (t : b ≡ goodPivots c) where
-  pub inverted-none : not b ≡ true → record { values = zero ∷ zero ∷ zero ∷ zero ∷ zero ∷ zero ∷ []; good = false } ≡ invert m d
+  pub inverted-none : not b ≡ true → record { values = zeros 6; good = false } ≡ invert m d
   unfolding invert
   inverted-none p = rw (← e, ← f, ← t, not-true b p) refl
 

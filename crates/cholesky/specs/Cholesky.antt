@@ -2,10 +2,10 @@
 use mathlib.Core.Bool.{Bool, true, false, _&&_, cond}
 use mathlib.Core.List.{List, [], _∷_}
 use lib.Ieee.{Float, neg, lt}
-use Rattle.number.specs.Binary64.{_⊕_, _⊖_, _⊗_, _⊘_, zero, half, epsilon64, recip}
+use Rattle.number.specs.Binary64.{_⊕_, _⊖_, _⊗_, _⊘_, half, epsilon64, recip}
 use Rattle.number.specs.Parts.{isFinite}
 use Rattle.root.specs.Root.{sqrt}
-use Rattle.number.specs.Vectors.{_!_}
+use Rattle.number.specs.Vectors.{_!_, zeros}
 use Rattle.cholesky.specs.declared.Scale.{Scale}
 use Rattle.cholesky.specs.declared.Lower.{Lower}
 use Rattle.cholesky.specs.declared.Factor.{Factor}
@@ -71,4 +71,4 @@ invert m d =
     let s = scaleOf d in
     let c = choleskyOf (scaledOf m s) in
     cond (goodPivots c) (record { values = inverseOf (c .lower) s; good = true })
-    (record { values = zero ∷ zero ∷ zero ∷ zero ∷ zero ∷ zero ∷ []; good = false })
+    (record { values = zeros 6; good = false })

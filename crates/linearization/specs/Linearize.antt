@@ -3,7 +3,7 @@ use mathlib.Core.Bool.{cond}
 use mathlib.Core.List.{List}
 use lib.Ieee.{Float}
 use Rattle.number.specs.Binary64.{_⊕_, _⊗_, zero}
-use Rattle.number.specs.Vectors.{tabulate}
+use Rattle.number.specs.Vectors.{tabulate, zeros}
 use Rattle.refusal.specs.Refused.{none, isNone}
 use Rattle.refusal.specs.declared.Refusal.{Refusal}
 use Rattle.projection.specs.declared.PinholeCamera.{PinholeCamera}
@@ -21,11 +21,11 @@ use Rattle.accumulate.specs.Accumulate.{poseHessian, crossHessian, pointHessian
 -- every number beside a refusal is +0
 unfoldable pub notMade : Refusal → LocalLinearization
 notMade r = record {
-  «pose_hessian» = tabulate 25 (λ i. zero);
-  «cross_hessian» = tabulate 15 (λ i. zero);
-  «point_hessian» = tabulate 9 (λ i. zero);
-  «pose_gradient» = tabulate 5 (λ i. zero);
-  «point_gradient» = tabulate 3 (λ i. zero);
+  «pose_hessian» = zeros 25;
+  «cross_hessian» = zeros 15;
+  «point_hessian» = zeros 9;
+  «pose_gradient» = zeros 5;
+  «point_gradient» = zeros 3;
   cost = zero;
   «squared_residual» = zero;
   refusal = r;

@@ -34,3 +34,7 @@ allZero (x ∷ xs) = eq x zero && allZero xs
 abbrev pub tabulate : ℕ → (ℕ → Float) → List Float
 tabulate zero· f = []
 tabulate (suc n) f = f 0 ∷ tabulate n (λ i. f (suc i))
+
+-- n zeros, such as stand beside a refusal
+abbrev pub zeros : ℕ → List Float
+zeros n = tabulate n (λ i. zero)

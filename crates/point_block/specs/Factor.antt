@@ -2,8 +2,8 @@
 use mathlib.Core.Bool.{cond}
 use mathlib.Core.List.{List, [], _∷_}
 use lib.Ieee.{Float}
-use Rattle.number.specs.Binary64.{_⊕_, _⊗_, zero}
-use Rattle.number.specs.Vectors.{_!_}
+use Rattle.number.specs.Binary64.{_⊕_, _⊗_}
+use Rattle.number.specs.Vectors.{_!_, zeros}
 use Rattle.refusal.specs.Rows as Rows
 use Rattle.refusal.specs.Refused.{of, none}
 use Rattle.cholesky.specs.Cholesky.{invert}
@@ -12,7 +12,7 @@ use Rattle.point_block.specs.declared.PointBlockFactor.{PointBlockFactor
 
 -- row 10; every number is +0
 unfoldable pub notFactored : PointBlockFactor
-notFactored = record { inverse = zero ∷ zero ∷ zero ∷ zero ∷ zero ∷ zero ∷ []; refusal = of Rows.notFactored }
+notFactored = record { inverse = zeros 6; refusal = of Rows.notFactored }
 
 -- the scale is the roots of the diagonal entries, none below 64ε of the largest
 unfoldable pub factorDamped : List Float → PointBlockFactor

@@ -1,9 +1,10 @@
 -- The factor of a block at a damping, which is the Rust's `PointBlockFactor::new`, and the lone factor of document 01, which tests row 3, then row 10, and has its rcond beside it.
 use Prim.Native.Nat.{ℕ}
 use mathlib.Core.Bool.{cond}
-use mathlib.Core.List.{List, [], _∷_}
+use mathlib.Core.List.{List}
 use lib.Ieee.{Float}
 use Rattle.number.specs.Binary64.{zero}
+use Rattle.number.specs.Vectors.{zeros}
 use Rattle.refusal.specs.Rows as Rows
 use Rattle.refusal.specs.Refused.{of, none, isNone}
 use Rattle.point_damping.specs.Damping.{goodDamping, dampedMatrix}
@@ -20,7 +21,7 @@ factor m damping =
 
 -- every number beside a refusal is +0
 unfoldable pub refused : ℕ → LoneFactor
-refused row = record { inverse = zero ∷ zero ∷ zero ∷ zero ∷ zero ∷ zero ∷ []; rcond = zero; refusal = of row }
+refused row = record { inverse = zeros 6; rcond = zero; refusal = of row }
 
 -- the rcond is that of the matrix as handed in, undamped
 unfoldable pub loneFactor : List Float → Float → LoneFactor

@@ -7,7 +7,7 @@ use lib.Dec.{T}
 use lib.Ieee.{Float, ofBits}
 use Rattle.number.specs.Binary64.{_⊗_, zero, epsilon64}
 use Rattle.number.specs.Parts.{nonneg, positiveFinite}
-use Rattle.number.specs.Vectors.{_!_}
+use Rattle.number.specs.Vectors.{_!_, zeros}
 use Rattle.number.proofs.Order.{nonneg-floor}
 use Rattle.extrema.specs.Extrema.{Larger}
 use Rattle.extrema.proofs.Laws.{nonneg-largest}
@@ -36,7 +36,7 @@ floored-is m scale a b c e p q r =
 -- ---- the answers, by the tests that lead to each
 
 module _ (m : List Float) (s : Float) (b : Bool) (r : Refusal) (e : s ≡ largestDiagonal m) (t : b ≡ positiveFinite s) where
-  pub diagonal-none : not b ≡ true → r ≡ of Rows.notFactored → record { values = zero ∷ zero ∷ zero ∷ []; refusal = r } ≡ dampingDiagonal m
+  pub diagonal-none : not b ≡ true → r ≡ of Rows.notFactored → record { values = zeros 3; refusal = r } ≡ dampingDiagonal m
   unfolding dampingDiagonal
   diagonal-none p q = rw (← e, ← t, not-true b p, q) refl
 
@@ -46,7 +46,7 @@ module _ (m : List Float) (s : Float) (b : Bool) (r : Refusal) (e : s ≡ larges
 
 module _ (m : List Float) (damping : Float) (d : DampingDiagonal) (b : Bool) (e : d ≡ dampingDiagonal m) (t : b ≡ isNone (d .refusal)) where
   pub damped-none : not b ≡ true
-      → record { matrix = zero ∷ zero ∷ zero ∷ zero ∷ zero ∷ zero ∷ zero ∷ zero ∷ zero ∷ []; refusal = d .refusal } ≡ dampedMatrix m damping
+      → record { matrix = zeros 9; refusal = d .refusal } ≡ dampedMatrix m damping
   unfolding dampedMatrix
   damped-none p = rw (← e, ← t, not-true b p) refl
 

@@ -4,7 +4,7 @@ use mathlib.Core.List.{List, [], _∷_}
 use lib.Ieee.{Float, lt}
 use Rattle.number.specs.Binary64.{_⊕_, _⊗_, zero, epsilon64}
 use Rattle.number.specs.Parts.{isFinite, positiveFinite}
-use Rattle.number.specs.Vectors.{_!_}
+use Rattle.number.specs.Vectors.{_!_, zeros}
 use Rattle.extrema.specs.Extrema.{max, largest}
 use Rattle.refusal.specs.Rows as Rows
 use Rattle.refusal.specs.Refused.{of, none, isNone}
@@ -29,7 +29,7 @@ unfoldable pub dampingDiagonal : List Float → DampingDiagonal
 dampingDiagonal m =
     cond (positiveFinite (largestDiagonal m))
     (record { values = floored m; refusal = none })
-    (record { values = zero ∷ zero ∷ zero ∷ []; refusal = of Rows.notFactored })
+    (record { values = zeros 3; refusal = of Rows.notFactored })
 
 -- the matrix with damping times those entries added along the diagonal
 unfoldable pub addedDiagonal : List Float → Float → List Float → List Float
@@ -50,4 +50,4 @@ dampedMatrix m damping =
     let diagonal = dampingDiagonal m in
     cond (isNone (diagonal .refusal))
     (record { matrix = addedDiagonal m damping (diagonal .values); refusal = diagonal .refusal })
-    (record { matrix = zero ∷ zero ∷ zero ∷ zero ∷ zero ∷ zero ∷ zero ∷ zero ∷ zero ∷ []; refusal = diagonal .refusal })
+    (record { matrix = zeros 9; refusal = diagonal .refusal })

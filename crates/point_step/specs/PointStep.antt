@@ -4,7 +4,7 @@ use mathlib.Core.Bool.{cond}
 use mathlib.Core.List.{List, [], _∷_}
 use lib.Ieee.{Float, neg}
 use Rattle.number.specs.Binary64.{_⊕_, _⊗_, zero}
-use Rattle.number.specs.Vectors.{_!_, sum, tabulate}
+use Rattle.number.specs.Vectors.{_!_, sum, tabulate, zeros}
 use Rattle.refusal.specs.Rows as Rows
 use Rattle.refusal.specs.Refused.{of, none, isNone}
 use Rattle.point_damping.specs.Damping.{goodDamping, dampingDiagonal}
@@ -37,7 +37,7 @@ stepped inverse t poseStep =
 
 -- every number beside a refusal is +0
 unfoldable pub notStepped : ℕ → PointStep
-notStepped row = record { step = tabulate 3 (λ i. zero); «damping_norm» = zero; refusal = of row }
+notStepped row = record { step = zeros 3; «damping_norm» = zero; refusal = of row }
 
 -- tests row 3, then row 10
 unfoldable pub stepOfTerms : PointTerms → Float → List Float → PointStep

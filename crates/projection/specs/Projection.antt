@@ -4,7 +4,7 @@ use mathlib.Core.List.{List, [], _∷_}
 use lib.Ieee.{Float, neg, le}
 use Rattle.number.specs.Binary64.{_⊕_, _⊖_, _⊗_, zero, epsilon64, recip}
 use Rattle.number.specs.Parts.{isFinite, abs}
-use Rattle.number.specs.Vectors.{_!_}
+use Rattle.number.specs.Vectors.{_!_, zeros}
 use Rattle.extrema.specs.Extrema.{largest}
 use Rattle.refusal.specs.Rows as Rows
 use Rattle.refusal.specs.Refused.{of, none}
@@ -46,8 +46,8 @@ allFinite p =
 -- row 9, with view 0 and index 0; every number is +0
 unfoldable pub notProjectable : Projected
 notProjectable = record {
-  residual = zero ∷ zero ∷ [];
-  jacobian = zero ∷ zero ∷ zero ∷ zero ∷ zero ∷ zero ∷ [];
+  residual = zeros 2;
+  jacobian = zeros 6;
   refusal = of Rows.projection;
 }
 

@@ -4,7 +4,7 @@ use mathlib.Core.List.{List}
 use lib.Ieee.{Float}
 use Rattle.extrema.specs.Extrema.{max}
 use Rattle.number.specs.Binary64.{_⊕_, _⊖_, _⊗_, zero, half, one}
-use Rattle.number.specs.Vectors.{tabulate, allFinite}
+use Rattle.number.specs.Vectors.{allFinite, zeros}
 use Rattle.refusal.specs.Rows as Rows
 use Rattle.refusal.specs.Refused.{of, none}
 use Rattle.point_damping.specs.Damping.{goodDamping}
@@ -17,12 +17,12 @@ use Rattle.reduced_system.specs.declared.Predicted.{Predicted}
 
 unfoldable pub newSystem : ReducedSystem
 newSystem = record {
-  hessian = tabulate 25 (λ i. zero);
-  gradient = tabulate 5 (λ i. zero);
+  hessian = zeros 25;
+  gradient = zeros 5;
   cost = zero;
   «squared_residual» = zero;
-  «full_pose_gradient» = tabulate 5 (λ i. zero);
-  «pose_diagonal» = tabulate 5 (λ i. zero);
+  «full_pose_gradient» = zeros 5;
+  «pose_diagonal» = zeros 5;
   «point_model_reduction» = zero;
   «scaled_point_gradient_inf_norm» = zero;
   «weak_point_count» = 0;

@@ -1,10 +1,9 @@
 -- The solve's two answers, by the test that leads to each. Assumes nothing.
 use mathlib.Core.Path.{_≡_, refl}
 use mathlib.Core.Bool.{Bool, true, false, _&&_}
-use mathlib.Core.List.{List, [], _∷_}
+use mathlib.Core.List.{List}
 use lib.Ieee.{Float}
-use Rattle.number.specs.Binary64.{zero}
-use Rattle.number.specs.Vectors.{allFinite}
+use Rattle.number.specs.Vectors.{allFinite, zeros}
 use Rattle.refusal.specs.Rows as Rows
 use Rattle.refusal.specs.Refused.{of, none}
 use Rattle.refusal.specs.declared.Refusal.{Refusal}
@@ -23,6 +22,6 @@ module _ (a b : List Float) (l : Lower) (x : List Float) (f g h k : Bool) (r : R
   unfolding solvePositiveDefinite
   solved t n = rw (← e, ← s, ← ef, ← eg, ← eh, ← ek, t, n) refl
 
-  pub not-solved : (f && g && h && k) ≡ false → r ≡ of Rows.notSolved → record { x = zero ∷ zero ∷ zero ∷ zero ∷ zero ∷ []; refusal = r } ≡ solvePositiveDefinite a b
+  pub not-solved : (f && g && h && k) ≡ false → r ≡ of Rows.notSolved → record { x = zeros 5; refusal = r } ≡ solvePositiveDefinite a b
   unfolding solvePositiveDefinite
   not-solved t n = rw (← e, ← s, ← ef, ← eg, ← eh, ← ek, t, n) refl

@@ -4,7 +4,7 @@ use mathlib.Core.List.{List, [], _∷_}
 use lib.Ieee.{Float, le}
 use Rattle.number.specs.Binary64.{_⊖_, _⊗_, _⊘_, zero}
 use Rattle.root.specs.Root.{sqrt}
-use Rattle.number.specs.Vectors.{_!_, sum, allFinite}
+use Rattle.number.specs.Vectors.{_!_, sum, allFinite, zeros}
 use Rattle.refusal.specs.Rows as Rows
 use Rattle.refusal.specs.Refused.{of, none}
 use Rattle.solver.specs.declared.Row.{Row}
@@ -106,4 +106,4 @@ solvePositiveDefinite a b =
     let x = solution l b in
     cond (allFinite a && allFinite b && goodRows l && allFinite x)
     (record { x = x; refusal = none })
-    (record { x = zero ∷ zero ∷ zero ∷ zero ∷ zero ∷ []; refusal = of Rows.notSolved })
+    (record { x = zeros 5; refusal = of Rows.notSolved })

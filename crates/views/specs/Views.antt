@@ -5,7 +5,7 @@ use mathlib.Core.List.{List}
 use lib.Ieee.{Float, le}
 use Rattle.number.specs.Binary64.{_⊗_, zero}
 use Rattle.number.specs.Parts.{isFinite}
-use Rattle.number.specs.Vectors.{_!_, tabulate}
+use Rattle.number.specs.Vectors.{_!_, tabulate, zeros}
 use Rattle.refusal.specs.Rows as Rows
 use Rattle.refusal.specs.Refused.{at, of, none, isNone}
 use Rattle.refusal.specs.declared.Refusal.{Refusal}
@@ -56,10 +56,10 @@ secondRows second rotated pose weight =
 -- every number beside a refusal is +0
 unfoldable pub notSeen : Refusal → LinearizedViews
 notSeen r = record {
-  first = record { residual = tabulate 2 (λ i. zero); pose = zero; point = tabulate 6 (λ i. zero) };
-  second = record { residual = tabulate 2 (λ i. zero); pose = tabulate 10 (λ i. zero); point = tabulate 6 (λ i. zero) };
-  residual1 = tabulate 2 (λ i. zero);
-  residual2 = tabulate 2 (λ i. zero);
+  first = record { residual = zeros 2; pose = zero; point = zeros 6 };
+  second = record { residual = zeros 2; pose = zeros 10; point = zeros 6 };
+  residual1 = zeros 2;
+  residual2 = zeros 2;
   refusal = r;
 }
 
