@@ -15,7 +15,7 @@ const INFINITY: u64 = 0x7ff0_0000_0000_0000;
 // 2 ^ 52: what the leading digit and the exponent's field count for
 const LEAD: u64 = 0x10_0000_0000_0000;
 
-// 2 ^ 26: how near to such an end d has to be
+// 2 ^ 26: how near d has to be to an end of its range for `root_near_one`
 const NEAR: u64 = 0x400_0000;
 
 // `f64::sqrt`. A zero of either sign, +∞ and NaN are their own roots.
