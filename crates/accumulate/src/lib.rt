@@ -3,6 +3,8 @@
 
 // The sums of `LocalLinearization::accumulate`: each entry is the product of two columns of the weighted
 // rows. A column has four numbers, two of view 1 and then two of view 2.
+#![tactic(auto)]
+
 ghost use Rattle.std.specs.Prelude.{◌≡◌, ◌<◌};
 ghost use Rattle.accumulate.specs.Accumulate as Accumulate;
 

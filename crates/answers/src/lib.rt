@@ -1,5 +1,7 @@
 // What the calls of the C interface answer: a refusal as one number, and values stored in lent memory. Where lengths do
 // not fit, the memory stays as it was.
+#![tactic(auto)]
+
 ghost use Rattle.std.specs.Prelude.{◌≡◌};
 ghost use Rattle.answers.specs.Answers as Answers;
 

@@ -2,6 +2,8 @@
 // SPDX-License-Identifier: MIT OR Apache-2.0
 
 // The reduced system of a whole problem, from the blocks of all points: kernel/two_view/optimizer.rs.
+#![tactic(auto)]
+
 ghost use Rattle.std.specs.Prelude.{◌≡◌, ◌≤◌, length};
 ghost use Rattle.checks.specs.Checks as Checks;
 ghost use Rattle.correspondences.specs.Problem as Problem;

@@ -1,5 +1,7 @@
 // The calls of the C interface on a point, over lent slices: its projection, its block and how it moves. A block is 59 numbers.
 // `pixel_step` exports them.
+#![tactic(auto)]
+
 ghost use Rattle.std.specs.Prelude.{◌≡◌};
 ghost use Rattle.answers.specs.Answers as Answers;
 ghost use Rattle.block_calls.specs.Calls as Calls;

@@ -3,6 +3,8 @@
 
 // What a block makes of a system's equations once its point is eliminated, whether it factors or not: from `add` of
 // kernel/two_view/schur.rs.
+#![tactic(auto)]
+
 ghost use Rattle.std.specs.Prelude.{◌≡◌};
 ghost use Rattle.block_elimination.specs.BlockElimination as BlockElimination;
 

@@ -3,6 +3,8 @@
 
 // A point in the second camera's frame: turned, then moved, as in `linearize_point` of
 // kernel/two_view/schur.rs.
+#![tactic(auto)]
+
 ghost use Rattle.std.specs.Prelude.{◌≡◌};
 ghost use Rattle.projection.specs.Pose as Pose;
 

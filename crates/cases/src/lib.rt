@@ -1,4 +1,6 @@
 // A line of stored answers: its reader, and whether an answer is the stored one.
+#![tactic(auto)]
+
 ghost use Rattle.std.specs.Prelude.{◌<◌, ◌≤◌, length};
 
 // So many words a line may have, `=` and `refused` among them.
@@ -146,9 +148,9 @@ impl Place {
         }
         let high = value % 0x1000_0000_0000_0000;
         if self.refused {
-            high * 10 + hex::value(byte)
+            high * 10 + hex_digits::value(byte)
         } else {
-            high * 16 + hex::value(byte)
+            high * 16 + hex_digits::value(byte)
         }
     }
 }

@@ -2,6 +2,8 @@
 // SPDX-License-Identifier: MIT OR Apache-2.0
 
 // The checks of a two-view problem over lent memory before any sum: kernel/two_view/optimizer.rs, residual.rs.
+#![tactic(auto)]
+
 mod rows;
 
 pub use rows::{MAXIMUM_POINTS, refused};

@@ -3,6 +3,8 @@
 
 // The scaled Cholesky factor of a symmetric 3 by 3 block: `factor_damped` of kernel/point_block.rs. A
 // matrix is nine numbers, row by row.
+#![tactic(auto)]
+
 ghost use Rattle.std.specs.Prelude.{◌≡◌};
 ghost use Rattle.cholesky.specs.Cholesky as Cholesky;
 

@@ -3,6 +3,8 @@
 
 // One correspondence of the lent lists: its point, what each view saw of it, and how a view projects it; beyond the end
 // of a list stands a NaN, as in the definitions. From kernel/two_view/optimizer.rs, residual.rs.
+#![tactic(auto)]
+
 ghost use Rattle.std.specs.Prelude.{◌≡◌};
 ghost use Rattle.correspondences.specs.Problem as Problem;
 

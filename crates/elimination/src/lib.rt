@@ -3,6 +3,8 @@
 
 // What a block that factors adds to the equations of the pose, once its point is eliminated: `add` of
 // kernel/two_view/schur.rs.
+#![tactic(auto)]
+
 ghost use Rattle.std.specs.Prelude.{◌≡◌, ◌<◌};
 ghost use Rattle.elimination.specs.Elimination as Elimination;
 

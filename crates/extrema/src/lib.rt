@@ -1,4 +1,6 @@
 // `f64::max` and `f64::min`, with document 01's rule for unlike zeros.
+#![tactic(auto)]
+
 ghost use Rattle.std.specs.Prelude.{[], ◌∷◌, ◌≡◌};
 ghost use Rattle.extrema.specs.Extrema as Extrema;
 

@@ -1,4 +1,6 @@
 // The bytes of a run record, and where its fields begin: document 01, "Run record and its list".
+#![tactic(auto)]
+
 ghost use Rattle.std.specs.Prelude.{[], ◌∷◌, ◌≡◌, ◌<◌};
 ghost use Rattle.refusal.specs.First as First;
 ghost use Rattle.fields.specs.Fields as Fields;

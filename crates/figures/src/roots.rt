@@ -9,7 +9,7 @@ pub fn print(text: &[u8]) {
             root(b);
             b = 0;
         } else {
-            b = b % 0x1000_0000_0000_0000 * 16 + hex::value(byte);
+            b = b % 0x1000_0000_0000_0000 * 16 + hex_digits::value(byte);
         }
     }
 }

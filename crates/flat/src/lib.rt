@@ -1,5 +1,7 @@
 // The structs of the C interface, read from the flat numbers of lent slices. A number beyond the end of a slice is NaN, a
 // count 0.
+#![tactic(auto)]
+
 ghost use Rattle.std.specs.Prelude.{◌≡◌, get_or};
 ghost use Rattle.slices.specs.Slices as Slices;
 ghost use Rattle.flat.specs.Flat as Flat;

@@ -1,4 +1,6 @@
 // The structs of the C interface as flat numbers, in the order in which `flat` reads them.
+#![tactic(auto)]
+
 ghost use Rattle.std.specs.Prelude.{◌≡◌};
 ghost use Rattle.flat_numbers.specs.FlatNumbers as FlatNumbers;
 

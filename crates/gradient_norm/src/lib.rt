@@ -3,6 +3,8 @@
 
 // `scaled_gradient_inf_norm` of schur.rs at 3 and at 5: the largest entry of a gradient, each scaled
 // by the root of its curvature.
+#![tactic(auto)]
+
 ghost use Rattle.std.specs.Prelude.{◌≡◌, [], ◌∷◌, T};
 ghost use Rattle.gradient_norm.specs.GradientNorm as GradientNorm;
 ghost use Rattle.extrema.specs.Extrema as Extrema;

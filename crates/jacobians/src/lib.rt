@@ -3,6 +3,8 @@
 
 // How a point's two coordinates in the second image move with the pose and with the point, in
 // `linearize_point` of kernel/two_view/schur.rs.
+#![tactic(auto)]
+
 ghost use Rattle.std.specs.Prelude.{◌≡◌};
 ghost use Rattle.jacobians.specs.Jacobians as Jacobians;
 

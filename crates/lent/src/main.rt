@@ -1,5 +1,7 @@
 // The same blocks through both forms of `add`: the system lent and changed in place, and the system by value.
 // Each line has a figure of the one, then of the other, as patterns of sixteen capital digits: the two columns have to be equal.
+#![tactic(auto)]
+
 ghost use Rattle.std.specs.Prelude.{◌≡◌};
 ghost use Rattle.list_of_adds.specs.System as System;
 

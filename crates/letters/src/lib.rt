@@ -1,4 +1,6 @@
 // The letter that a list gives a point: document 01, "Run record and its list".
+#![tactic(auto)]
+
 ghost use Rattle.std.specs.Prelude.{◌≡◌};
 ghost use Rattle.letters.specs.Letters as Letters;
 

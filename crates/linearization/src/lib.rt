@@ -3,6 +3,8 @@
 
 // The block maker of the two-view problem, `linearize_point` of kernel/two_view/schur.rs, over the views
 // of a point.
+#![tactic(auto)]
+
 mod linearize;
 mod terms;
 

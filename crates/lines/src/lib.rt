@@ -1,4 +1,6 @@
 // The lines of a list but its sum: document 01, "Run record and its list".
+#![tactic(auto)]
+
 ghost use Rattle.lines.specs.Lines as Lines;
 ghost use Rattle.text.specs.Text as Text;
 
@@ -17,7 +19,7 @@ pub fn put_run(out: &mut [u8], at: usize, n: u32, damping: f64) -> usize
 pub fn put_bits(out: &mut [u8], at: usize, x: f64, after: &[u8]) -> usize
     ensures { Text.Put (Lines.bits_then x after.now) at out.old result out.new }
 {
-    let digits = hex::digits(number::to_bits(x));
+    let digits = hex_digits::digits(number::to_bits(x));
     text::put_three(out, at, b" ", &digits, after)
 }
 

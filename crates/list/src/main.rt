@@ -1,4 +1,6 @@
 // Reads a run record from standard input and prints its list.
+#![tactic(auto)]
+
 fn main() {
     // one byte more than the longest record: more cannot change the list (`prefix-decides`)
     let mut bytes = [0u8; record::MAX_RECORD + 1];

@@ -1,5 +1,7 @@
 // The calls of the C interface on matrices, over lent slices: the 3 by 3 point block and the 5 by 5 solve. A matrix is given row
 // by row, an inverse is 6 numbers, packed. `pixel_step` exports them.
+#![tactic(auto)]
+
 ghost use Rattle.std.specs.Prelude.{◌≡◌};
 ghost use Rattle.answers.specs.Answers as Answers;
 ghost use Rattle.matrix_calls.specs.Calls as Calls;

@@ -8,7 +8,7 @@ use native.Mathlib.Nat.{mul-le-mul_right, mul-lt-mul_of_pos_right, lt_of_mul-lt-
 use lib.IntN.{ℤ, pos, negsuc}
 use lib.Dec.{T, leb, ltb, eqb, eqb→eq, leb→le, ltb→lt}
 use lib.Pow.{pow-add, pow_pos, pow-lt}
-use lib.Ieee.{Float, fin, Format, prec, emax, low, up, down, size, round, fits, hid, top, of_bits, to_bits}
+use lib.Ieee.{Float, nan, inf, fin, Format, prec, emax, low, up, down, size, round, fits, hid, top, of_bits, to_bits}
 use lib.Ieee.Bits.{of_bits-to_bits}
 use lib.Ieee.Digits.{back}
 use lib.Ieee.Exact.{HasValue, round_exact}
@@ -26,6 +26,10 @@ cross m n d e a c C v w =
 -- the bits of a value depend on its sign and its size alone
 same_bits : (f : Format) (x y : Float) (s : Bool) (a c : ℕ) → 0 < c → HasValue x s a c → HasValue y s a c → to_bits f x ≡ to_bits f y
 unfolding to_bits
+same_bits f nan y s a c C v w = elim v [ ]
+same_bits f (inf _) y s a c C v w = elim v [ ]
+same_bits f (fin t m e) nan s a c C v w = elim w [ ]
+same_bits f (fin t m e) (inf _) s a c C v w = elim w [ ]
 same_bits f (fin t m e) (fin u n d) s a c C v w =
     let l = 2 ^ low f in
     let x = m * up e in
@@ -72,6 +76,8 @@ in_bounds f s (suc m) e h =
     )
 
 round_has : (f : Format) (x : Float) (s : Bool) (a c : ℕ) → 0 < c → T (fits f x) → HasValue x s a c → HasValue (round f s a c) s a c
+round_has f nan s a c C p v = elim v [ ]
+round_has f (inf _) s a c C p v = elim v [ ]
 round_has f (fin t m e) s a c C p v =
     let h = in_bounds f t m e p in
     let k = in_units (low f) e h.1 in

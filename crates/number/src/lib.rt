@@ -3,6 +3,8 @@
 // `vectors` what is asked of a list.
 
 // 64ε and 192ε, where ε is `f64::EPSILON`
+#![tactic(auto)]
+
 pub const EPSILON64: f64 = 1.4210854715202004e-14;
 
 pub const EPSILON192: f64 = 4.263256414560601e-14;

@@ -2,6 +2,8 @@
 // SPDX-License-Identifier: MIT OR Apache-2.0
 
 // One whole step of the two-view problem over lent memory: kernel/two_view/optimizer.rs.
+#![tactic(auto)]
+
 mod whole_step;
 
 pub use whole_step::step;

@@ -3,6 +3,8 @@
 //
 // A call with an `out`, or with a system that it changes, answers 0 and writes its result there, or
 // answers a refusal as one number (`answers::code`) and writes nothing. Lengths that do not fit are row 1.
+#![tactic(auto)]
+
 pub mod blocks;
 pub mod numbers;
 pub mod point_blocks;

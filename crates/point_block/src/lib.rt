@@ -3,6 +3,8 @@
 
 // Scaled Cholesky factorization for symmetric 3 by 3 point blocks: kernel/point_block.rs. A matrix is
 // nine numbers, row by row; `cholesky` has the arithmetic of the factor, `point_damping` the damping.
+#![tactic(auto)]
+
 ghost use Rattle.std.specs.Prelude.{◌≡◌};
 ghost use Rattle.point_block.specs.Condition as Condition;
 ghost use Rattle.point_block.specs.Factor as Factor;

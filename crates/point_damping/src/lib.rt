@@ -3,6 +3,8 @@
 
 // The damping of a symmetric 3 by 3 point block: kernel/point_block.rs. A matrix is nine numbers, row by
 // row.
+#![tactic(auto)]
+
 ghost use Rattle.std.specs.Prelude.{◌≡◌};
 ghost use Rattle.point_damping.specs.Damping as Damping;
 

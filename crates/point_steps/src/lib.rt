@@ -2,6 +2,8 @@
 // SPDX-License-Identifier: MIT OR Apache-2.0
 
 // How all points move with a step of the pose: the steps in the lent room, and their sums, as in kernel/two_view/optimizer.rs.
+#![tactic(auto)]
+
 ghost use Rattle.std.specs.Prelude.{◌≡◌, length};
 ghost use Rattle.assembly.specs.Assembly as Assembly;
 ghost use Rattle.correspondences.specs.Problem as Problem;

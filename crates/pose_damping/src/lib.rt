@@ -2,6 +2,8 @@
 // SPDX-License-Identifier: MIT OR Apache-2.0
 
 // The damping of the pose's five equations, of kernel/two_view/schur.rs.
+#![tactic(auto)]
+
 ghost use Rattle.std.specs.Prelude.{◌≡◌, ◌<◌};
 ghost use Rattle.pose_damping.specs.PoseDamping as PoseDamping;
 

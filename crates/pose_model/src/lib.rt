@@ -3,6 +3,8 @@
 
 // The quadratic model of the pose's five equations, of kernel/two_view/schur.rs: what a step is predicted
 // to gain, undamped.
+#![tactic(auto)]
+
 ghost use Rattle.std.specs.Prelude.{◌≡◌, ◌<◌};
 ghost use Rattle.pose_model.specs.PoseModel as PoseModel;
 

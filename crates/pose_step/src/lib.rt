@@ -2,6 +2,8 @@
 // SPDX-License-Identifier: MIT OR Apache-2.0
 
 // The step of the pose, limited in length: `limit_pose_step` of kernel/two_view/optimizer.rs.
+#![tactic(auto)]
+
 ghost use Rattle.std.specs.Prelude.{◌≡◌};
 ghost use Rattle.pose_step.specs.PoseStep as PoseStep;
 

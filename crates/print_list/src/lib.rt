@@ -1,4 +1,6 @@
 // Prints the list of a run record on standard output.
+#![tactic(auto)]
+
 pub fn of(record: &[u8]) {
     let mut out = [0u8; record::MAX_LIST];
     let written = record::write_list(record, &mut out);

@@ -3,6 +3,8 @@
 
 // The projection of a point into one camera: the pixel half of kernel/projection.rs, with
 // `PinholeCamera` of kernel/camera.rs.
+#![tactic(auto)]
+
 ghost use Rattle.std.specs.Prelude.{◌≡◌};
 ghost use Rattle.projection.specs.Projection as Projection;
 

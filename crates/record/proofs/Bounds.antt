@@ -21,7 +21,7 @@ use Rattle.checks.specs.Checks as Checks
 use Rattle.assembly.specs.Assembly.{block_at, reduced_system}
 use Rattle.checks.proofs.Passed.{checked}
 use Rattle.assembly.proofs.Blocks.{weak_at_most, costs_are_numbers}
-use Rattle.hex.specs.Hex.{digits}
+use Rattle.hex_digits.specs.Hex.{digits}
 use Rattle.fields.specs.Fields.{point_fields}
 use Rattle.record_form.specs.Form as Form
 use Rattle.run.specs.Run.{column, run, damping}

@@ -1,4 +1,6 @@
 // The form of a run record: document 01, "Run record and its list".
+#![tactic(auto)]
+
 mod form;
 mod reader;
 

@@ -3,6 +3,8 @@
 
 // The reduced system: the 5 by 5 equations of the pose once each point is eliminated, `ReducedSystem` of
 // kernel/two_view/schur.rs. Here is what is asked of it; `schur` takes blocks in.
+#![tactic(auto)]
+
 ghost use Rattle.std.specs.Prelude.{◌≡◌};
 ghost use Rattle.reduced_system.specs.Model as Model;
 

@@ -1,5 +1,7 @@
 // What a call answers where it gives no result: the number of a row of document 01's list, with the
 // view and the index where these have a sense. Row 0 says that nothing was refused.
+#![tactic(auto)]
+
 ghost use Rattle.std.specs.Prelude.{◌≡◌};
 ghost use Rattle.refusal.specs.Refused as Refused;
 

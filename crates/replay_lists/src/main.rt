@@ -2,6 +2,8 @@
 // list of the record in the file. `samples/replay` makes the files, the arguments and what is due.
 
 // The longest name
+#![tactic(auto)]
+
 const NAME: usize = 64;
 
 // Room for one byte more than any file has; the longest is one byte longer than a record may be.

@@ -1,6 +1,8 @@
 // The square root of IEEE 754, from bits and whole numbers alone. The digits of x are scaled to a d
 // of 53 or 54 of them with an even power of two beside it; the root of d * 2 ^ 52 to the nearest whole
 // number then has the 53 digits of the result.
+#![tactic(auto)]
+
 ghost use Rattle.std.specs.Prelude.{◌⊎◌, ◌≡◌, ◌+◌, ◌-◌, ◌*◌, ◌^◌, ◌≤◌, ◌<◌};
 ghost use Rattle.std.specs.Float.Ieee as Ieee;
 ghost use Rattle.std.specs.Float.{binary64};

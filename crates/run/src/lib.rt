@@ -1,5 +1,7 @@
 // What a record of the right form holds: numbers of eight bytes, low byte first. Each call has an answer for every record,
 // as beyond the end stand zeros; the offsets that are asked for are too small to wrap.
+#![tactic(auto)]
+
 ghost use Rattle.std.specs.Prelude.{◌≡◌, ◌≤◌, ◌<◌, ◌*◌, ◌+◌, length};
 ghost use Rattle.run.specs.Run as Run;
 

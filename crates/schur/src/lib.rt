@@ -2,6 +2,8 @@
 // SPDX-License-Identifier: MIT OR Apache-2.0
 
 // A block taken into the reduced system, with its point eliminated: `add` of kernel/two_view/schur.rs.
+#![tactic(auto)]
+
 ghost use Rattle.std.specs.Prelude.{◌≡◌, ◌<◌};
 ghost use Rattle.list_of_adds.specs.System as System;
 

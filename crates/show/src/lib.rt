@@ -1,5 +1,7 @@
 // What the test programs print: a name, patterns as sixteen capital hexadecimal digits, counts,
 // refusals as three numbers.
+#![tactic(auto)]
+
 use refusal::Refusal;
 
 // A line: a figure's name and its value's pattern
@@ -19,7 +21,7 @@ pub fn end() {
 
 pub fn pattern(b: u64) {
     io::write_all(1, b" ");
-    let digits = hex::digits(b);
+    let digits = hex_digits::digits(b);
     io::write_all(1, &digits);
 }
 

@@ -1,5 +1,7 @@
 // Lent slices as small arrays, and values copied to one. Each call has an answer for every length: a number beyond the
 // end of a slice is NaN.
+#![tactic(auto)]
+
 ghost use Rattle.std.specs.Prelude.{◌≡◌, ◌≤◌, length};
 ghost use Rattle.slices.specs.Slices as Slices;
 

@@ -2,6 +2,8 @@
 // SPDX-License-Identifier: MIT OR Apache-2.0
 
 // `solve_positive_definite` of numerics/refine/solver.rs, for 5 unknowns. The matrix is 25 numbers, row by row.
+#![tactic(auto)]
+
 ghost use Rattle.std.specs.Prelude.{◌≡◌};
 ghost use Rattle.number.specs.Vectors as Vectors;
 ghost use Rattle.solver.specs.Solver as Solver;

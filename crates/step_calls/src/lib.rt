@@ -1,5 +1,7 @@
 // The calls of the C interface for one whole step of the two-view problem, and the limit of the pose step: `pixel_step`
 // exports them.
+#![tactic(auto)]
+
 ghost use Rattle.std.specs.Prelude.{◌≡◌, length};
 ghost use Rattle.correspondences.specs.Problem as Problem;
 ghost use Rattle.answers.specs.Answers as Answers;

@@ -1,5 +1,7 @@
 // Prints document 01's figures of the whole step, each on a line of its own and worked out by the proved code.
 // What they have to be is in `stdout` beside this folder.
+#![tactic(auto)]
+
 mod steps;
 
 fn main() {

@@ -1,4 +1,6 @@
 // A stored file, as the programs read it that run stored cases again.
+#![tactic(auto)]
+
 ghost use Rattle.io.specs.Counts.{IsPrefixLen};
 
 // Reads the file into room, and answers how many bytes it has. Of a file that is missing, or that fills

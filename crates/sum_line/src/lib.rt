@@ -1,4 +1,6 @@
 // The line of a list's sums and of its verdict: document 01, "Run record and its list".
+#![tactic(auto)]
+
 ghost use Rattle.std.specs.Prelude.{◌≡◌};
 ghost use Rattle.sum_line.specs.SumLine as SumLine;
 ghost use Rattle.text.specs.Text as Text;

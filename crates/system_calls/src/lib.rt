@@ -1,5 +1,7 @@
 // The calls of the C interface on a lent system: 45 numbers, and beside them the weak count, the block count and the flag.
 // `pixel_step` exports them.
+#![tactic(auto)]
+
 ghost use Rattle.std.specs.Prelude.{◌≡◌, length};
 ghost use Rattle.answers.specs.Answers as Answers;
 ghost use Rattle.flat_numbers.specs.FlatNumbers as FlatNumbers;

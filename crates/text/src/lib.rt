@@ -1,4 +1,6 @@
 // Text in a lent buffer.
+#![tactic(auto)]
+
 ghost use Rattle.std.specs.Prelude.{◌++◌, ◌≡◌, ◌≤◌, ◌-◌, min, length, drop};
 ghost use Rattle.text.specs.Text as Text;
 

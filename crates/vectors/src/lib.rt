@@ -1,4 +1,6 @@
 // What is asked of a list of numbers: an entry, and whether all are finite.
+#![tactic(auto)]
+
 ghost use Rattle.std.specs.Prelude.{◌≡◌};
 ghost use Rattle.number.specs.Vectors as Vectors;
 ghost use Rattle.number.specs.Vectors.{◌!◌};

@@ -4,6 +4,8 @@
 // Both views of a point, linearized and weighted: residuals, with their derivatives by the five
 // parameters of the pose and by the three coordinates of the point. The first half of
 // `linearize_point` of kernel/two_view/schur.rs.
+#![tactic(auto)]
+
 ghost use Rattle.std.specs.Prelude.{◌≡◌, length};
 ghost use Rattle.views.specs.Views as Views;
 

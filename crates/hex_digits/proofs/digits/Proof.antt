@@ -1,7 +1,7 @@
 -- `hex::digits` meets its contract. Assumes nothing.
 use borrow.Author.Rules.{rules}
-use Rattle.hex.proofs.digits.Statement.{statement}
-use Rattle.hex.proofs.digits.Tie as tie
+use Rattle.hex_digits.proofs.digits.Statement.{statement}
+use Rattle.hex_digits.proofs.digits.Tie as tie
 
 returns : tie.Need-returns
 returns c = cc

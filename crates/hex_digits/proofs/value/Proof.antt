@@ -4,9 +4,9 @@ use Prim.Native.Nat.{ℕ, ◌+◌, ◌-◌, ◌≤◌, ◌<◌}
 use native.Mathlib.Omega.{arith}
 use borrow.Author.Rules.{rules}
 use borrow.Author.Tests.{lt-ltb, le-ltb, le-leb, lt-leb}
-use Rattle.hex.specs.Hex.{value}
-use Rattle.hex.proofs.value.Statement.{statement}
-use Rattle.hex.proofs.value.Tie as tie
+use Rattle.hex_digits.specs.Hex.{value}
+use Rattle.hex_digits.proofs.value.Statement.{statement}
+use Rattle.hex_digits.proofs.value.Tie as tie
 
 before : (b : ℕ) → b < 48 → 0 ≡ value b
 unfolding value

@@ -1,9 +1,9 @@
 -- `hex::digit` meets its contract. Assumes nothing.
 use borrow.Author.Rules.{rules}
 use borrow.Author.Tests.{lt-ltb, le-ltb}
-use Rattle.hex.specs.Hex.{digit}
-use Rattle.hex.proofs.digit.Statement.{statement}
-use Rattle.hex.proofs.digit.Tie as tie
+use Rattle.hex_digits.specs.Hex.{digit}
+use Rattle.hex_digits.proofs.digit.Statement.{statement}
+use Rattle.hex_digits.proofs.digit.Tie as tie
 
 returns : tie.Need-returns
 unfolding digit

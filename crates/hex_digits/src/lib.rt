@@ -1,6 +1,8 @@
 // Numbers as capital hexadecimal digits, in ASCII, and back.
+#![tactic(auto)]
+
 ghost use Rattle.std.specs.Prelude.{◌<◌, ◌≡◌};
-ghost use Rattle.hex.specs.Hex as Hex;
+ghost use Rattle.hex_digits.specs.Hex as Hex;
 
 // The lowest digit of n
 fn digit(n: u64) -> u8
