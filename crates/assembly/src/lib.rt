@@ -16,7 +16,7 @@ use refusal::Refusal;
 use views::Correspondence;
 
 // A problem's system after the pose damping; beside a refusal every number is +0.
-#[derive(Drop)]
+#[derive(Clone, Copy)]
 pub struct Reduced {
     pub system: ReducedSystem,
     pub refusal: Refusal,

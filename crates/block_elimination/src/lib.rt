@@ -13,7 +13,7 @@ use point_block::PointBlockFactor;
 use reduced_system::ReducedSystem;
 
 // The equations after a block, and what the block shows of itself
-#[derive(Drop)]
+#[derive(Clone, Copy)]
 pub struct Change {
     pub hessian: [f64; 25],
     pub gradient: [f64; 5],

@@ -8,7 +8,7 @@ pub const WORDS: usize = 160;
 
 // A line by its words: the inputs, `=` at `split`, then the outputs, or `refused` and three numbers.
 // What stands for `=` and `refused` themselves has no sense.
-#[derive(Drop)]
+#[derive(Clone, Copy)]
 pub struct Case {
     pub words: [u64; WORDS],
     pub count: usize,
@@ -21,7 +21,7 @@ pub struct Case {
 }
 
 // Where the reader is: at a word, with what it has seen before
-#[derive(Drop)]
+#[derive(Clone, Copy)]
 struct Place {
     word: usize,
     split: usize,

@@ -10,14 +10,14 @@ ghost use Rattle.cholesky.specs.Cholesky as Cholesky;
 
 // The inverse, packed lower triangle: 00, 10, 11, 20, 21, 22. Where a pivot is not good every number
 // is +0.
-#[derive(Drop)]
+#[derive(Clone, Copy)]
 pub struct Inverse {
     pub values: [f64; 6],
     pub good: bool,
 }
 
 // The Jacobi scale: the roots of a diagonal
-#[derive(Drop)]
+#[derive(Clone, Copy)]
 struct Scale {
     s0: f64,
     s1: f64,
@@ -25,7 +25,7 @@ struct Scale {
 }
 
 // A lower triangle, by row and column
-#[derive(Drop)]
+#[derive(Clone, Copy)]
 struct Lower {
     e00: f64,
     e10: f64,
@@ -36,7 +36,7 @@ struct Lower {
 }
 
 // The pivots before their roots, and the lower triangle
-#[derive(Drop)]
+#[derive(Clone, Copy)]
 struct Factor {
     p0: f64,
     p1: f64,

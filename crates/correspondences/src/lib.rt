@@ -12,7 +12,7 @@ use projection::{PinholeCamera, Projected};
 use views::{Correspondence, Pose};
 
 // The two cameras, and how the second one sits
-#[derive(Drop)]
+#[derive(Clone, Copy)]
 pub struct Rig {
     pub camera1: PinholeCamera,
     pub camera2: PinholeCamera,

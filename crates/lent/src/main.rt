@@ -10,7 +10,7 @@ use projection::PinholeCamera;
 use reduced_system::{Added, ReducedSystem};
 use views::{Correspondence, Pose};
 
-#[derive(Drop)]
+#[derive(Clone, Copy)]
 struct Both {
     lent: ReducedSystem,
     by_value: ReducedSystem,

@@ -12,7 +12,7 @@ use views::{Correspondence, LinearizedViews, Pose};
 
 // A point's block: 5 by 5, 5 by 3 and 3 by 3, row by row, with its gradients and its cost. Beside a
 // refusal every number is +0.
-#[derive(Drop)]
+#[derive(Clone, Copy)]
 pub struct LocalLinearization {
     pub pose_hessian: [f64; 25],
     pub cross_hessian: [f64; 15],

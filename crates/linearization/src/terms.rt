@@ -12,7 +12,7 @@ use refusal::Refusal;
 use views::{Correspondence, Pose, View1, View2};
 
 // Beside a refusal every number is +0.
-#[derive(Drop)]
+#[derive(Clone, Copy)]
 pub struct PointTerms {
     pub cross_hessian: [f64; 15],
     pub point_hessian: [f64; 9],

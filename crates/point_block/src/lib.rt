@@ -14,14 +14,14 @@ use refusal::Refusal;
 
 // The inverse of a symmetric 3 by 3 block, packed lower triangle: 00, 10, 11, 20, 21, 22. Beside a
 // refusal every number is +0, here and in the struct below.
-#[derive(Drop)]
+#[derive(Clone, Copy)]
 pub struct PointBlockFactor {
     pub inverse: [f64; 6],
     pub refusal: Refusal,
 }
 
 // A factor with its rcond: document 01's lone factor
-#[derive(Drop)]
+#[derive(Clone, Copy)]
 pub struct LoneFactor {
     pub inverse: [f64; 6],
     pub rcond: f64,

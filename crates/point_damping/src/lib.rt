@@ -11,13 +11,13 @@ ghost use Rattle.point_damping.specs.Damping as Damping;
 use refusal::Refusal;
 
 // What damping is multiplied with. Beside a refusal every number is +0, here and in the struct below.
-#[derive(Drop)]
+#[derive(Clone, Copy)]
 pub struct DampingDiagonal {
     pub values: [f64; 3],
     pub refusal: Refusal,
 }
 
-#[derive(Drop)]
+#[derive(Clone, Copy)]
 pub struct DampedMatrix {
     pub matrix: [f64; 9],
     pub refusal: Refusal,

@@ -12,7 +12,7 @@ use point_block::PointBlockFactor;
 use refusal::Refusal;
 
 // A point's step and its damping norm; beside a refusal every number is +0.
-#[derive(Drop)]
+#[derive(Clone, Copy)]
 pub struct PointStep {
     pub step: [f64; 3],
     pub damping_norm: f64,

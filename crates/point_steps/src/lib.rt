@@ -16,7 +16,7 @@ use point_step::PointStep;
 use views::Correspondence;
 
 // The squared lengths of the point steps and their damping norms, summed
-#[derive(Drop)]
+#[derive(Clone, Copy)]
 pub struct Sums {
     pub squared: f64,
     pub damping_norm: f64,

@@ -10,7 +10,7 @@ ghost use Rattle.projection.specs.Projection as Projection;
 
 use refusal::Refusal;
 
-#[derive(Drop)]
+#[derive(Clone, Copy)]
 pub struct PinholeCamera {
     pub fx: f64,
     pub fy: f64,
@@ -21,7 +21,7 @@ pub struct PinholeCamera {
 
 // The residual and its derivative by the point in the camera's frame, two rows of three. Beside a
 // refusal every number is +0.
-#[derive(Drop)]
+#[derive(Clone, Copy)]
 pub struct Projected {
     pub residual: [f64; 2],
     pub jacobian: [f64; 6],

@@ -16,7 +16,7 @@ use reduced_system::ReducedSystem;
 pub const MAX_LIST: usize = 4057;
 
 // The list's length, and whether it fits into the lent buffer
-#[derive(Drop)]
+#[derive(Clone, Copy)]
 pub struct Written {
     pub length: usize,
     pub fits: bool,

@@ -10,7 +10,7 @@ ghost use Rattle.reduced_system.specs.Model as Model;
 
 use refusal::Refusal;
 
-#[derive(Drop)]
+#[derive(Clone, Copy)]
 pub struct ReducedSystem {
     pub hessian: [f64; 25],
     pub gradient: [f64; 5],
@@ -27,14 +27,14 @@ pub struct ReducedSystem {
 }
 
 // A system after a call of `add` or `finish_damping`, with that call's refusal
-#[derive(Drop)]
+#[derive(Clone, Copy)]
 pub struct Added {
     pub system: ReducedSystem,
     pub refusal: Refusal,
 }
 
 // What a step is predicted to gain; beside a refusal +0
-#[derive(Drop)]
+#[derive(Clone, Copy)]
 pub struct Predicted {
     pub reduction: f64,
     pub refusal: Refusal,

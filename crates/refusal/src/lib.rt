@@ -36,7 +36,7 @@ pub const RECORD_TOO_LONG: u32 = 14;
 
 pub const RECORD_FORM: u32 = 15;
 
-#[derive(Drop)]
+#[derive(Clone, Copy)]
 pub struct Refusal {
     pub number: u32,
     pub view: u32,

@@ -4,14 +4,14 @@ use crate::calls::MOST;
 use cases::Case;
 
 // A call by its number, and how many words stand on both sides of `=`
-#[derive(Drop)]
+#[derive(Clone, Copy)]
 pub struct Form {
     pub inputs: usize,
     pub outputs: usize,
     pub call: usize,
 }
 
-#[derive(Drop)]
+#[derive(Clone, Copy)]
 pub struct Tally {
     cases: u64,
     refused: u64,

@@ -122,7 +122,7 @@ fn first_guess(d: u64) -> u64
 }
 
 // What a guess begins with, how it rises over the step, and by how much less towards its end
-#[derive(Drop)]
+#[derive(Clone, Copy)]
 struct Parabola {
     start: u64,
     slope: u64,

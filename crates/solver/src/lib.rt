@@ -11,7 +11,7 @@ ghost use Rattle.solver.specs.Solver as Solver;
 use refusal::Refusal;
 
 // The solution. Beside a refusal every number is +0.
-#[derive(Drop)]
+#[derive(Clone, Copy)]
 pub struct Solved {
     pub x: [f64; 5],
     pub refusal: Refusal,
@@ -19,7 +19,7 @@ pub struct Solved {
 
 // A row of the lower triangle, and the sums that its entries were made from. What lies right of the
 // diagonal is +0.
-#[derive(Drop)]
+#[derive(Clone, Copy)]
 struct Row {
     sums: [f64; 5],
     e0: f64,
@@ -30,7 +30,7 @@ struct Row {
 }
 
 // The lower triangle, by rows
-#[derive(Drop)]
+#[derive(Clone, Copy)]
 struct Lower {
     r0: Row,
     r1: Row,

@@ -8,7 +8,7 @@ use step_result::StepResult;
 use views::Pose;
 
 // What is varied of five points at depth 1, seen without error by two cameras that stand one apart
-#[derive(Drop)]
+#[derive(Clone, Copy)]
 struct Problem {
     x: f64,
     depth: f64,

@@ -11,7 +11,7 @@ use reduced_system::ReducedSystem;
 use refusal::Refusal;
 
 // Beside a refusal every number is +0.
-#[derive(Drop)]
+#[derive(Clone, Copy)]
 pub struct StepResult {
     pub pose_step: [f64; 5],
     pub cost: f64,

@@ -14,7 +14,7 @@ use refusal::Refusal;
 
 // How the second camera sits: the rotation by rows, the translation, two vectors that span the
 // translation's tangent plane, and the baseline
-#[derive(Drop)]
+#[derive(Clone, Copy)]
 pub struct Pose {
     pub rotation: [f64; 9],
     pub translation: [f64; 3],
@@ -23,7 +23,7 @@ pub struct Pose {
 }
 
 // A point, seen by both cameras, with its inverse standard deviation
-#[derive(Drop)]
+#[derive(Clone, Copy)]
 pub struct Correspondence {
     pub point: [f64; 3],
     pub view1: [f64; 2],
@@ -32,14 +32,14 @@ pub struct Correspondence {
 }
 
 // View 1, whose ten derivatives by the pose are all the same number
-#[derive(Drop)]
+#[derive(Clone, Copy)]
 pub struct View1 {
     pub residual: [f64; 2],
     pub pose: f64,
     pub point: [f64; 6],
 }
 
-#[derive(Drop)]
+#[derive(Clone, Copy)]
 pub struct View2 {
     pub residual: [f64; 2],
     pub pose: [f64; 10],
@@ -47,7 +47,7 @@ pub struct View2 {
 }
 
 // Both views, with their residuals before any weight; beside a refusal every number is +0.
-#[derive(Drop)]
+#[derive(Clone, Copy)]
 pub struct LinearizedViews {
     pub first: View1,
     pub second: View2,

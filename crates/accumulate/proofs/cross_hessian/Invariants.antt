@@ -1,0 +1,15 @@
+use mathlib.Core.Path.{◌≡◌, refl}
+use mathlib.Core.List.{[], ◌∷◌}
+use Prim.Native.Nat.{◌*◌, ◌-◌, ◌≤◌}
+use lib.ListN.{get_or}
+use native.Mathlib.Omega.{arith}
+use borrow.Author.Rules.{rules}
+use Rattle.number.proofs.Fill.{filled_of, by_rows, array_none, array_full, row_of_three}
+use Rattle.accumulate.specs.Accumulate.{column, product, cross_hessian}
+use Rattle.accumulate.proofs.cross_hessian.Given as goal
+
+abbrev pub invariant-loop-i : goal.invariant-loop-i
+invariant-loop-i l = (l.i ≤ 5) × (l.h ≡ filled_of 15 (by_rows 3 (λ i j. product (column 5 l.a l.b i) (get_or (l.c0 ∷ l.c1 ∷ l.c2 ∷ []) j []))) (3 * l.i))
+
+abbrev pub decreases-loop-i : goal.decreases-loop-i
+decreases-loop-i l = 5 - l.i

@@ -1,0 +1,17 @@
+use mathlib.Core.Path.{◌≡◌, refl}
+use Prim.Native.Nat.{◌-◌, ◌≤◌}
+use native.Mathlib.Omega.{arith}
+use borrow.Author.Rules.{rules}
+use Rattle.number.proofs.Fill.{filled_of, array_none, array_next, array_full}
+use Rattle.accumulate.specs.Accumulate.{column, product, pose_gradient}
+use Rattle.accumulate.proofs.pose_gradient.Goals as goal
+
+pub loop-i-init : goal.loop-i-init
+loop-i-init c = (omega arith, array_none 5 _)
+
+pub loop-i-preserved : goal.loop-i-preserved
+loop-i-preserved c = (omega arith, array_next _ _ _ _ _ c.loop-i.invariant.1 (rw (c.product.ensures, c.pose_column.ensures) refl) (omega arith))
+
+pub returns : goal.returns
+unfolding pose_gradient
+returns c = rw (← c.residuals-r.ensures) (array_full _ _ _ _ c.loop-i.invariant.1 (omega arith))

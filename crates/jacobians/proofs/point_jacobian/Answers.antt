@@ -1,0 +1,16 @@
+use mathlib.Core.Path.{◌≡◌, refl}
+use Prim.Native.Nat.{◌/◌, ◌%◌, ◌-◌, ◌≤◌}
+use native.Mathlib.Omega.{arith}
+use Rattle.number.proofs.Fill.{filled_of, array_none, array_next, array_full}
+use Rattle.number.specs.Binary64.{◌⊗◌}
+use Rattle.jacobians.specs.Jacobians.{entry}
+use Rattle.jacobians.proofs.point_jacobian.Goals as goal
+
+pub loop-k-init : goal.loop-k-init
+loop-k-init c = (omega arith, array_none 6 _)
+
+pub loop-k-preserved : goal.loop-k-preserved
+loop-k-preserved c = (omega arith, array_next _ _ _ _ _ c.loop-k.invariant.1 (refl) (omega arith))
+
+pub returns : goal.returns
+returns c = array_full _ _ _ _ c.loop-k.invariant.1 (omega arith)

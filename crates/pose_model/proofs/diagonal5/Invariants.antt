@@ -1,0 +1,13 @@
+use mathlib.Core.Path.{◌≡◌, refl}
+use Prim.Native.Nat.{◌*◌, ◌-◌, ◌≤◌}
+use native.Mathlib.Omega.{arith}
+use Rattle.number.proofs.Fill.{filled_of, array_none, array_next, array_full}
+use Rattle.number.specs.Vectors.{◌!◌}
+use Rattle.pose_model.specs.PoseModel.{diagonal5}
+use Rattle.pose_model.proofs.diagonal5.Given as goal
+
+abbrev pub invariant-loop-i : goal.invariant-loop-i
+invariant-loop-i l = (l.i ≤ 5) × (l.out ≡ filled_of 5 (λ i. l.h ! (6 * i)) l.i)
+
+abbrev pub decreases-loop-i : goal.decreases-loop-i
+decreases-loop-i l = 5 - l.i

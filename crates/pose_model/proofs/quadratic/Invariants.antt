@@ -1,0 +1,13 @@
+use mathlib.Core.Path.{◌≡◌, refl}
+use Prim.Native.Nat.{◌-◌, ◌≤◌}
+use native.Mathlib.Omega.{arith}
+use borrow.Author.Rules.{rules}
+use Rattle.number.proofs.Fill.{filled_of, array_none, array_next, array_full}
+use Rattle.pose_model.specs.PoseModel.{dot5, hessian_row, quadratic}
+use Rattle.pose_model.proofs.quadratic.Given as goal
+
+abbrev pub invariant-loop-i : goal.invariant-loop-i
+invariant-loop-i l = (l.i ≤ 5) × (l.product ≡ filled_of 5 (λ i. dot5 (hessian_row l.h i) l.step) l.i)
+
+abbrev pub decreases-loop-i : goal.decreases-loop-i
+decreases-loop-i l = 5 - l.i

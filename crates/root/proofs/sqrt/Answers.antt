@@ -1,0 +1,144 @@
+use mathlib.Core.Path.{◌≡◌, refl, sym, ap, subst, ◌∙◌}
+use mathlib.Core.Bool.{Bool, true, false, not, cond, false≢true}
+use Prim.Native.Nat.{ℕ, zero, suc, ◌+◌, ◌*◌, ◌/◌, ◌%◌, ◌^◌, ◌≤◌, ◌<◌, zero-le}
+use native.Mathlib.Nat.{zero-lt-suc, mul-pos, mul-one, zero-mul, add-zero}
+use native.Mathlib.Omega.{arith}
+use borrow.Author.Tests.{lt-ltb, le-ltb}
+use lib.Dec.{T, leb, ltb, eqb, nleb→lt}
+use lib.Ieee.{Float, nan, inf, fin, binary64, fits, is_nan, lt, div, odd, of_bits, of_fields, to_bits, nan_bits, up, down}
+use lib.Ieee.Bits.{of_bits-to_bits, nan_bits_is}
+use lib.Ieee.Fits.{up_pos}
+use Rattle.number.specs.Binary64 as Binary64
+use Rattle.number.specs.Parts.{is_finite}
+use Rattle.root.specs.Root.{sqrt, CorrectlyRounded}
+use Rattle.root.proofs.Patterns.{plain_finite}
+use Rattle.root.proofs.Correct.{sqrt_correct}
+use Rattle.root.proofs.sqrt.Goals as goal
+
+-- `root::sqrt` meets its contract: what lies above zero and is finite goes by its pattern, and every other value by cases. Assumes nothing.
+-- ---- above zero
+number : (x : Float) → lt Binary64.zero x ≡ true → T (not (is_nan x))
+unfolding lt of_bits is_nan
+number nan l = absurd (false≢true l)
+number (inf s) l = tt
+number (fin s m e) l = tt
+
+some_bits : (x : Float) → T (fits binary64 x) → lt Binary64.zero x ≡ true → 0 < to_bits binary64 x
+unfolding lt of_bits
+some_bits x f l = go (to_bits binary64 x) (of_bits-to_bits binary64 x f)
+  where
+    none : lt Binary64.zero Binary64.zero ≡ false
+    none = refl
+
+    go : (b : ℕ) → of_bits binary64 b ≡ x → 0 < b
+    go zero e = absurd (false≢true (sym none ∙ ap (lt Binary64.zero) e ∙ l))
+    go (suc b) e = zero-lt-suc b
+
+finite_number : (x : Float) → T (is_finite x) → is_nan x ≡ false
+unfolding is_finite is_nan
+finite_number nan f = absurd f
+finite_number (inf s) f = absurd f
+finite_number (fin s m e) f = refl
+
+-- the root of a finite one is IEEE 754's, and so it has a pattern that is read back
+correct : (x : Float) → T (fits binary64 x) → lt Binary64.zero x ≡ true → to_bits binary64 x < 0x7ff0_0000_0000_0000 → CorrectlyRounded x (sqrt x)
+correct x f l h = sqrt_correct x f (subst (λ (y : Float). T (is_finite y)) (of_bits-to_bits binary64 x f) (plain_finite (to_bits binary64 x) h)) (subst T (sym l) tt)
+
+no_nan_bits : (x : Float) → CorrectlyRounded x (sqrt x) → T (not (nan_bits binary64 (to_bits binary64 (sqrt x))))
+no_nan_bits x c =
+    subst (λ (b : Bool). T (not b))
+    (sym (nan_bits_is binary64 (to_bits binary64 (sqrt x)) ∙ ap is_nan (of_bits-to_bits binary64 (sqrt x) c.held) ∙ finite_number (sqrt x) c.finite))
+    tt
+
+-- ---- a pattern from +∞'s on is +∞'s, a NaN's or a negative value's
+odd-below : (q x : ℕ) → lt Binary64.zero (odd 53 true q x 1074) ≡ false
+unfolding lt of_bits odd
+odd-below zero x = refl
+odd-below (suc q) x = refl
+
+below-zero : (x t : ℕ) → lt Binary64.zero (of_fields binary64 true x t) ≡ false
+unfolding lt of_bits of_fields
+below-zero zero t = odd-below t 0
+below-zero (suc x) t = go (eqb (suc x) 2047) (eqb t 0)
+  where
+    go : (a b : Bool) → lt Binary64.zero (cond a (cond b (inf true) nan) (odd 53 true (2 ^ 52 + t) x 1074)) ≡ false
+    go true true = refl
+    go true false = refl
+    go false b = odd-below (2 ^ 52 + t) x
+
+own_root : (s : Bool) (x t : ℕ) → (T (not s) → x ≡ 2047) → lt Binary64.zero (of_fields binary64 s x t) ≡ true → of_fields binary64 s x t ≡ sqrt (of_fields binary64 s x t)
+unfolding of_fields sqrt
+own_root true x t h l = absurd (false≢true (sym (below-zero x t) ∙ l))
+own_root false x t h l = subst (λ (y : ℕ). of_fields binary64 false y t ≡ sqrt (of_fields binary64 false y t)) (sym (h tt)) (go (eqb t 0))
+  where
+    go : (b : Bool) → cond b (inf false) nan ≡ sqrt (cond b (inf false) nan)
+    go true = refl
+    go false = refl
+
+at-infinity : (b : ℕ) → 0x7ff0_0000_0000_0000 ≤ b → lt Binary64.zero (of_bits binary64 b) ≡ true → of_bits binary64 b ≡ sqrt (of_bits binary64 b)
+unfolding of_bits
+at-infinity b h l = own_root (leb (2 ^ 63) b) (b % 2 ^ 63 / 2 ^ 52) (b % 2 ^ 52) (λ n. let k = nleb→lt (2 ^ 63) b n in omega arith) l
+
+infinite : (x : Float) → T (fits binary64 x) → 0x7ff0_0000_0000_0000 ≤ to_bits binary64 x → lt Binary64.zero x ≡ true → x ≡ sqrt x
+infinite x f h l =
+    subst (λ (y : Float). y ≡ sqrt y) (of_bits-to_bits binary64 x f)
+    (at-infinity (to_bits binary64 x) h (ap (lt Binary64.zero) (of_bits-to_bits binary64 x f) ∙ l))
+
+-- ---- not above zero
+nothing-below : (a d : ℕ) → ltb a (0 * d) ≡ false
+nothing-below a d = rw zero-mul (le-ltb a 0 zero-le)
+
+some-above : (m a d : ℕ) → 0 < a → ltb (0 * d) (suc m * a * 1) ≡ true
+some-above m a d p = rw (zero-mul, mul-one) (lt-ltb 0 (suc m * a) (mul-pos (zero-lt-suc m) p))
+
+no-sum : (a d : ℕ) → ltb 0 (0 * a * 1 + 0 * d) ≡ false
+no-sum a d = simp zero-mul
+
+some-sum : (m a d : ℕ) → 0 < a → ltb 0 (suc m * a * 1 + 0 * d) ≡ true
+some-sum m a d p = rw (mul-one, zero-mul, add-zero) (lt-ltb 0 (suc m * a) (mul-pos (zero-lt-suc m) p))
+
+negative-root : (x : Float) → lt x Binary64.zero ≡ true → div binary64 Binary64.zero Binary64.zero ≡ sqrt x
+unfolding lt of_bits div sqrt
+negative-root nan l = refl
+negative-root (inf true) l = refl
+negative-root (inf false) l = absurd (false≢true l)
+negative-root (fin true zero e) l = absurd (false≢true (sym (no-sum (up e) (down e)) ∙ l))
+negative-root (fin true (suc m) e) l = refl
+negative-root (fin false zero e) l = absurd (false≢true (sym (nothing-below (0 * up e * 1) (down e)) ∙ l))
+negative-root (fin false (suc m) e) l = absurd (false≢true (sym (nothing-below (suc m * up e * 1) (down e)) ∙ l))
+
+zero-root : (x : Float) → lt Binary64.zero x ≡ false → lt x Binary64.zero ≡ false → x ≡ sqrt x
+unfolding lt of_bits sqrt
+zero-root nan l g = refl
+zero-root (inf true) l g = absurd (false≢true (sym g))
+zero-root (inf false) l g = refl
+zero-root (fin s zero e) l g = refl
+zero-root (fin true (suc m) e) l g = absurd (false≢true (sym g ∙ some-sum m (up e) (down e) (up_pos e)))
+zero-root (fin false (suc m) e) l g = absurd (false≢true (sym l ∙ some-above m (up e) (down e) (up_pos e)))
+
+-- ---- the needs
+held : (c : tie.Start) → T (fits binary64 c.args.x)
+held c = subst T (sym c.well-formed.0.1) tt
+
+pub float_to_bits-b : goal.float_to_bits-b
+float_to_bits-b c = number c.args.x c.if-x.true
+
+pub root_of_pattern-requires : goal.root_of_pattern-requires
+root_of_pattern-requires c = (some_bits c.args.x (held c) c.if-x.true, c.if-b-lt-INFINITY.true)
+
+pub float_from_bits-result : goal.float_from_bits-result
+unfolding start
+float_from_bits-result c = rw (bits c) (no_nan_bits (start c).args.x (rounded c))
+
+pub returns-then-b-lt-INFINITY : goal.returns-then-b-lt-INFINITY
+unfolding start
+returns-then-b-lt-INFINITY c = ap (of_bits binary64) (bits c) ∙ of_bits-to_bits binary64 (sqrt (start c).args.x) (rounded c).held
+
+pub returns-then-x : goal.returns-then-x
+returns-then-x c = infinite c.args.x (held c) c.if-b-lt-INFINITY.false c.if-x.true
+
+pub returns-then-x-2 : goal.returns-then-x-2
+returns-then-x-2 c = negative-root c.args.x c.if-x-2.true
+
+pub returns-else-x-2 : goal.returns-else-x-2
+returns-else-x-2 c = zero-root c.args.x c.if-x.false c.if-x-2.false

@@ -1,0 +1,11 @@
+use mathlib.Core.Path.{◌≡◌}
+use Prim.Native.Nat.{ℕ, zero, suc, ◌+◌, ◌-◌, ◌*◌, ◌/◌, ◌^◌, ◌≤◌, ◌<◌}
+use native.Mathlib.Omega.{arith}
+use Rattle.root.proofs.Whole.{heron, quotient_lt, square_fits}
+use Rattle.root.proofs.whole_root.Given as goal
+
+abbrev pub invariant-loop-root : goal.invariant-loop-root
+invariant-loop-root l = (l.d < (l.root + 1) * (l.root + 1)) × (l.root < 2 ^ 31)
+
+abbrev pub decreases-loop-root : goal.decreases-loop-root
+decreases-loop-root l = l.root
