@@ -7,7 +7,7 @@ ghost use Rattle.record_form.specs.Reads as Reads;
 use crate::form;
 use refusal::Refusal;
 
-#[derive(Drop)]
+#[derive(Clone, Copy)]
 pub(crate) struct Reader<'a> {
     pub record: &'a [u8],
     pub at: usize,

@@ -1,17 +1,17 @@
-use mathlib.Core.Path.{sym, subst}
-use mathlib.Core.Bool.{Bool, cond}
+use mathlib.Core.Path.{◌≡◌, sym, subst}
+use mathlib.Core.Bool.{Bool, true, cond}
 use lib.Dec.{T}
-use lib.Ieee.{binary64}
+use lib.Ieee.{Float, binary64, fits}
 use Rattle.extrema.specs.Extrema.{Larger, larger}
 use Rattle.extrema.proofs.Laws.{larger_is}
 use Rattle.extrema.proofs.larger.Goals as goal
 
--- `extrema::larger` meets its contract. Assumes nothing.
-meets : (c : tie.Start) → Larger c.args.low c.args.x (larger c.args.low c.args.x)
-meets c = larger_is binary64 c.args.low c.args.x (subst T (sym c.well-formed.0.1) tt) (subst T (sym c.well-formed.1.0.1) tt)
+-- what `larger` gives, for values that the format holds
+meets : (low x : Float) → fits binary64 low ≡ true → fits binary64 x ≡ true → Larger low x (larger low x)
+meets low x p q = larger_is binary64 low x (subst T (sym p) tt) (subst T (sym q) tt)
 
 pub returns-then-low-x : goal.returns-then-low-x
-returns-then-low-x c = subst (λ (t : Bool). Larger c.args.low c.args.x (cond t c.args.x c.args.low)) c.if-low-x.true (meets c)
+returns-then-low-x c = subst (λ (t : Bool). Larger c.args.low c.args.x (cond t c.args.x c.args.low)) c.if-low-x.true (meets _ _ c.well_formed.0.1 c.well_formed.1.0.1)
 
 pub returns-else-low-x : goal.returns-else-low-x
-returns-else-low-x c = subst (λ (t : Bool). Larger c.args.low c.args.x (cond t c.args.x c.args.low)) c.if-low-x.false (meets c)
+returns-else-low-x c = subst (λ (t : Bool). Larger c.args.low c.args.x (cond t c.args.x c.args.low)) c.if-low-x.false (meets _ _ c.well_formed.0.1 c.well_formed.1.0.1)

@@ -3,7 +3,7 @@ use borrow.Author.Tests.{lt-ltb, le-ltb}
 use Rattle.hex_digits.specs.Hex.{digit}
 use Rattle.hex_digits.proofs.digit.Goals as goal
 
--- `hex::digit` meets its contract. Assumes nothing.
+-- `hex_digits::digit` meets its contract. Assumes nothing.
 pub returns-then-d-lt10 : goal.returns-then-d-lt10
 unfolding digit
 returns-then-d-lt10 c = simp (lt-ltb _ _ c.if-d-lt10.true)

@@ -1,6 +1,6 @@
 use borrow.Author.Rules.{rules}
 use Rattle.hex_digits.proofs.digits.Goals as goal
 
--- `hex::digits` meets its contract. Assumes nothing.
+-- `hex_digits::digits` meets its contract. Assumes nothing.
 pub returns : goal.returns
 returns c = cc
