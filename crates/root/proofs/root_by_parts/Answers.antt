@@ -1,37 +1,34 @@
 use native.Mathlib.Omega.{arith}
-use Rattle.root.proofs.Whole.{Sizes, sizes, root_above, root_below}
+use Rattle.root.proofs.Whole.{sizes, root_above, root_below}
 use Rattle.root.proofs.root_by_parts.Goals as goal
 
 -- `root::root_by_parts` meets its contract: `Whole` has how large each step's result is, and that the last test finds the nearest root. Assumes nothing.
-within : (c : tie.After-whole-root) → Sizes c.before.args.d c.whole-root.result c.whole-root.ensures c.before.requires.0
-within c = sizes c.before.args.d c.whole-root.result c.whole-root.ensures c.before.requires.0 c.before.requires.1
-
 pub overflow_mul-rest-2 : goal.overflow_mul-rest-2
-overflow_mul-rest-2 c = let s = within c in omega arith
+overflow_mul-rest-2 c = let s = sizes c.args.d c.whole_root-high.result c.whole_root-high.ensures c.requires.0 c.requires.1 in omega arith
 
 pub nonzero_div-low : goal.nonzero_div-low
-nonzero_div-low c = let s = within c in omega arith
+nonzero_div-low c = let s = sizes c.args.d c.whole_root-high.result c.whole_root-high.ensures c.requires.0 c.requires.1 in omega arith
 
 pub nonzero_rem-left : goal.nonzero_rem-left
-nonzero_rem-left c = let s = within c in omega arith
+nonzero_rem-left c = let s = sizes c.args.d c.whole_root-high.result c.whole_root-high.ensures c.requires.0 c.requires.1 in omega arith
 
 pub overflow_mul-root : goal.overflow_mul-root
-overflow_mul-root c = let s = within c in omega arith
+overflow_mul-root c = let s = sizes c.args.d c.whole_root-high.result c.whole_root-high.ensures c.requires.0 c.requires.1 in omega arith
 
 pub overflow_add-root : goal.overflow_add-root
-overflow_add-root c = let s = within c in omega arith
+overflow_add-root c = let s = sizes c.args.d c.whole_root-high.result c.whole_root-high.ensures c.requires.0 c.requires.1 in omega arith
 
 pub overflow_mul-low : goal.overflow_mul-low
-overflow_mul-low c = let s = within c in omega arith
+overflow_mul-low c = let s = sizes c.args.d c.whole_root-high.result c.whole_root-high.ensures c.requires.0 c.requires.1 in omega arith
 
 pub overflow_add-root-2 : goal.overflow_add-root-2
-overflow_add-root-2 c = let s = within c in omega arith
+overflow_add-root-2 c = let s = sizes c.args.d c.whole_root-high.result c.whole_root-high.ensures c.requires.0 c.requires.1 in omega arith
 
 pub overflow_mul-left : goal.overflow_mul-left
-overflow_mul-left c = let s = within c in omega arith
+overflow_mul-left c = let s = sizes c.args.d c.whole_root-high.result c.whole_root-high.ensures c.requires.0 c.requires.1 in omega arith
 
 pub overflow_add-result : goal.overflow_add-result
-overflow_add-result c = let s = within c in omega arith
+overflow_add-result c = let s = sizes c.args.d c.whole_root-high.result c.whole_root-high.ensures c.requires.0 c.requires.1 in omega arith
 
 pub returns-then-root-low : goal.returns-then-root-low
 returns-then-root-low c =

@@ -1,5 +1,5 @@
 use mathlib.Core.Path.{◌≡◌, sym, ap, subst, ◌∙◌}
-use mathlib.Core.Logic.{⊎_elim}
+use mathlib.Core.Logic.{◌⊎◌, inl, inr}
 use Prim.Native.Nat.{ℕ, ◌+◌, ◌*◌, ◌/◌, ◌%◌, ◌^◌, ◌≤◌, ◌<◌}
 use native.Mathlib.Nat.{mul_assoc, mul-le-mul_right, mul-lt-mul_of_pos_right}
 use native.Mathlib.Omega.{arith}
@@ -10,6 +10,7 @@ use mir.Val.{Fits}
 use Rattle.root.proofs.Whole.{nearest_high}
 use Rattle.root.proofs.Rounded.{root_pattern}
 use Rattle.root.proofs.root_of_digits.Goals as goal
+use Rattle.root.proofs.root_of_digits.Goals.{then-power-eq0, else-power-eq0}
 
 -- `root::root_of_digits` meets its contract: an odd power leaves a factor of two to the digits. Assumes nothing.
 -- d * 2 ^ 52 with an even power of two beside it is m * 2 ^ (p + 52)
@@ -18,15 +19,37 @@ record Evened (m p d : ℕ) : Type 0 where
   high : d < 2 ^ 54
   same : m * 2 ^ (p + 52) ≡ d * 2 ^ 52 * 2 ^ (2 * (p / 2))
 
-evened : (c : tie.Joined1) → Evened c.before.args.m c.before.args.power c.if1.d
-evened c =
-    let m = c.before.args.m in
-    let p = c.before.args.power in
-    let pre = c.before.requires in
-    ⊎_elim
-    (λ w. subst (Evened m p) (sym w.1) (at-even m p pre.0 pre.1 w.0.taken))
-    (λ w. subst (Evened m p) (sym w.1) (at-odd m p pre.0 pre.1 w.0.left))
-    c.if1.branch
+module _ (m p : ℕ) (lo : 2 ^ 52 ≤ m) (hi : m < 2 ^ 53) where
+  at_even : p % 2 ≡ 0 → Evened m p m
+  at_even h = record {
+    low = lo;
+    high = omega arith;
+    same = ap (λ (x : ℕ). m * 2 ^ x) (regroup p h) ∙ ap (λ (x : ℕ). m * x) (pow-add 2 52 (2 * (p / 2))) ∙ sym (mul_assoc m (2 ^ 52) (2 ^ (2 * (p / 2))));
+  }
+    where
+      regroup : (p : ℕ) → p % 2 ≡ 0 → p + 52 ≡ 52 + 2 * (p / 2)
+      regroup p h = omega arith
+
+  at_odd : (p % 2 ≡ 0 → ⊥) → Evened m p (2 * m)
+  at_odd h = record {
+    low = omega arith;
+    high = omega arith;
+    same =
+        ap (λ (x : ℕ). m * 2 ^ x) (regroup p h)
+        ∙ ap (λ (x : ℕ). m * x) (pow-add 2 53 (2 * (p / 2)))
+        ∙ sym (mul_assoc m (2 ^ 53) (2 ^ (2 * (p / 2))))
+        ∙ ap (λ (x : ℕ). x * 2 ^ (2 * (p / 2))) (doubled m);
+  }
+    where
+      regroup : (p : ℕ) → (p % 2 ≡ 0 → ⊥) → p + 52 ≡ 53 + 2 * (p / 2)
+      regroup p h = omega arith
+
+      doubled : (m : ℕ) → m * 2 ^ 53 ≡ 2 * m * 2 ^ 52
+      doubled m = omega arith
+
+  evened : (d : ℕ) → (p % 2 ≡ 0) × (d ≡ m) ⊎ (p % 2 ≡ 0 → ⊥) × (d ≡ 2 * m) → Evened m p d
+  evened d (inl w) = subst (Evened m p) (sym w.1) (at_even w.0)
+  evened d (inr w) = subst (Evened m p) (sym w.1) (at_odd w.0)
 
 -- the square that `nearest_root` takes the root of has 105 or 106 digits
 low : (m p d : ℕ) → Evened m p d → 2 ^ 104 ≤ d * 2 ^ 52
@@ -36,7 +59,7 @@ high : (m p d : ℕ) → Evened m p d → d * 2 ^ 52 < 2 ^ 106
 high m p d e = mul-lt-mul_of_pos_right e.high (lit< tt)
 
 pub nearest_root-requires : goal.nearest_root-requires
-nearest_root-requires c = let e = evened c in (e.low, e.high)
+nearest_root-requires c = let e = evened c.args.m c.args.power c.requires.0 c.requires.1 c.if-power-eq0.d (elim c.if-power-eq0.branch [ then-power-eq0 w ↦ inl (w.if-power-eq0.true, w.d-is) | else-power-eq0 w ↦ inr (w.if-power-eq0.false, w.d-is) ]) in (e.low, e.high)
 
 pub overflow_add-result : goal.overflow_add-result
 overflow_add-result c =
@@ -44,7 +67,7 @@ overflow_add-result c =
     let m = start.args.m in
     let p = start.args.power in
     let d = c.if-power-eq0.d in
-    sum p c.nearest_root.result start.requires.2 (nearest_high (d * 2 ^ 52) c.nearest_root.result (2 ^ 53) (high m p d (evened c)) c.nearest_root.ensures)
+    sum p c.nearest_root.result start.requires.2 (nearest_high (d * 2 ^ 52) c.nearest_root.result (2 ^ 53) (high m p d (evened c.args.m c.args.power c.requires.0 c.requires.1 c.if-power-eq0.d (elim c.if-power-eq0.branch [ then-power-eq0 w ↦ inl (w.if-power-eq0.true, w.d-is) | else-power-eq0 w ↦ inr (w.if-power-eq0.false, w.d-is) ]))) c.nearest_root.ensures)
   where
     sum : (p r : ℕ) → p < 4000 → r ≤ 2 ^ 53 → Fits w64 (p / 2 * 2 ^ 52 + r)
     sum p r h k = record { fits = omega arith }
@@ -55,7 +78,7 @@ returns c =
     let m = start.args.m in
     let p = start.args.power in
     let d = c.if-power-eq0.d in
-    let e = evened c in
+    let e = evened c.args.m c.args.power c.requires.0 c.requires.1 c.if-power-eq0.d (elim c.if-power-eq0.branch [ then-power-eq0 w ↦ inl (w.if-power-eq0.true, w.d-is) | else-power-eq0 w ↦ inr (w.if-power-eq0.false, w.d-is) ]) in
     sym (root_pattern _ (d * 2 ^ 52) (p / 2) c.nearest_root.result e.same (low m p d e) (high m p d e) c.nearest_root.ensures (halved p start.requires.2))
   where
     halved : (p : ℕ) → p < 4000 → p / 2 < 2000

@@ -51,94 +51,107 @@ no_nan_bits x c =
     tt
 
 -- ---- a pattern from +∞'s on is +∞'s, a NaN's or a negative value's
-odd-below : (q x : ℕ) → lt Binary64.zero (odd 53 true q x 1074) ≡ false
+odd_below : (q x : ℕ) → lt Binary64.zero (odd 53 true q x 1074) ≡ false
 unfolding lt of_bits odd
-odd-below zero x = refl
-odd-below (suc q) x = refl
+odd_below zero x = refl
+odd_below (suc q) x = refl
 
-below-zero : (x t : ℕ) → lt Binary64.zero (of_fields binary64 true x t) ≡ false
+below_zero : (x t : ℕ) → lt Binary64.zero (of_fields binary64 true x t) ≡ false
 unfolding lt of_bits of_fields
-below-zero zero t = odd-below t 0
-below-zero (suc x) t = go (eqb (suc x) 2047) (eqb t 0)
+below_zero zero t = odd_below t 0
+below_zero (suc x) t = go (eqb (suc x) 2047) (eqb t 0)
   where
     go : (a b : Bool) → lt Binary64.zero (cond a (cond b (inf true) nan) (odd 53 true (2 ^ 52 + t) x 1074)) ≡ false
     go true true = refl
     go true false = refl
-    go false b = odd-below (2 ^ 52 + t) x
+    go false b = odd_below (2 ^ 52 + t) x
 
 own_root : (s : Bool) (x t : ℕ) → (T (not s) → x ≡ 2047) → lt Binary64.zero (of_fields binary64 s x t) ≡ true → of_fields binary64 s x t ≡ sqrt (of_fields binary64 s x t)
 unfolding of_fields sqrt
-own_root true x t h l = absurd (false≢true (sym (below-zero x t) ∙ l))
+own_root true x t h l = absurd (false≢true (sym (below_zero x t) ∙ l))
 own_root false x t h l = subst (λ (y : ℕ). of_fields binary64 false y t ≡ sqrt (of_fields binary64 false y t)) (sym (h tt)) (go (eqb t 0))
   where
     go : (b : Bool) → cond b (inf false) nan ≡ sqrt (cond b (inf false) nan)
     go true = refl
     go false = refl
 
-at-infinity : (b : ℕ) → 0x7ff0_0000_0000_0000 ≤ b → lt Binary64.zero (of_bits binary64 b) ≡ true → of_bits binary64 b ≡ sqrt (of_bits binary64 b)
+at_infinity : (b : ℕ) → 0x7ff0_0000_0000_0000 ≤ b → lt Binary64.zero (of_bits binary64 b) ≡ true → of_bits binary64 b ≡ sqrt (of_bits binary64 b)
 unfolding of_bits
-at-infinity b h l = own_root (leb (2 ^ 63) b) (b % 2 ^ 63 / 2 ^ 52) (b % 2 ^ 52) (λ n. let k = nleb→lt (2 ^ 63) b n in omega arith) l
+at_infinity b h l = own_root (leb (2 ^ 63) b) (b % 2 ^ 63 / 2 ^ 52) (b % 2 ^ 52) (λ n. let k = nleb→lt (2 ^ 63) b n in omega arith) l
 
 infinite : (x : Float) → T (fits binary64 x) → 0x7ff0_0000_0000_0000 ≤ to_bits binary64 x → lt Binary64.zero x ≡ true → x ≡ sqrt x
 infinite x f h l =
     subst (λ (y : Float). y ≡ sqrt y) (of_bits-to_bits binary64 x f)
-    (at-infinity (to_bits binary64 x) h (ap (lt Binary64.zero) (of_bits-to_bits binary64 x f) ∙ l))
+    (at_infinity (to_bits binary64 x) h (ap (lt Binary64.zero) (of_bits-to_bits binary64 x f) ∙ l))
 
 -- ---- not above zero
-nothing-below : (a d : ℕ) → ltb a (0 * d) ≡ false
-nothing-below a d = rw zero-mul (le-ltb a 0 zero-le)
+nothing_below : (a d : ℕ) → ltb a (0 * d) ≡ false
+nothing_below a d = rw zero-mul (le-ltb a 0 zero-le)
 
-some-above : (m a d : ℕ) → 0 < a → ltb (0 * d) (suc m * a * 1) ≡ true
-some-above m a d p = rw (zero-mul, mul-one) (lt-ltb 0 (suc m * a) (mul-pos (zero-lt-suc m) p))
+some_above : (m a d : ℕ) → 0 < a → ltb (0 * d) (suc m * a * 1) ≡ true
+some_above m a d p = rw (zero-mul, mul-one) (lt-ltb 0 (suc m * a) (mul-pos (zero-lt-suc m) p))
 
-no-sum : (a d : ℕ) → ltb 0 (0 * a * 1 + 0 * d) ≡ false
-no-sum a d = simp zero-mul
+no_sum : (a d : ℕ) → ltb 0 (0 * a * 1 + 0 * d) ≡ false
+no_sum a d = simp zero-mul
 
-some-sum : (m a d : ℕ) → 0 < a → ltb 0 (suc m * a * 1 + 0 * d) ≡ true
-some-sum m a d p = rw (mul-one, zero-mul, add-zero) (lt-ltb 0 (suc m * a) (mul-pos (zero-lt-suc m) p))
+some_sum : (m a d : ℕ) → 0 < a → ltb 0 (suc m * a * 1 + 0 * d) ≡ true
+some_sum m a d p = rw (mul-one, zero-mul, add-zero) (lt-ltb 0 (suc m * a) (mul-pos (zero-lt-suc m) p))
 
-negative-root : (x : Float) → lt x Binary64.zero ≡ true → div binary64 Binary64.zero Binary64.zero ≡ sqrt x
+negative_root : (x : Float) → lt x Binary64.zero ≡ true → div binary64 Binary64.zero Binary64.zero ≡ sqrt x
 unfolding lt of_bits div sqrt
-negative-root nan l = refl
-negative-root (inf true) l = refl
-negative-root (inf false) l = absurd (false≢true l)
-negative-root (fin true zero e) l = absurd (false≢true (sym (no-sum (up e) (down e)) ∙ l))
-negative-root (fin true (suc m) e) l = refl
-negative-root (fin false zero e) l = absurd (false≢true (sym (nothing-below (0 * up e * 1) (down e)) ∙ l))
-negative-root (fin false (suc m) e) l = absurd (false≢true (sym (nothing-below (suc m * up e * 1) (down e)) ∙ l))
+negative_root nan l = refl
+negative_root (inf true) l = refl
+negative_root (inf false) l = absurd (false≢true l)
+negative_root (fin true zero e) l = absurd (false≢true (sym (no_sum (up e) (down e)) ∙ l))
+negative_root (fin true (suc m) e) l = refl
+negative_root (fin false zero e) l = absurd (false≢true (sym (nothing_below (0 * up e * 1) (down e)) ∙ l))
+negative_root (fin false (suc m) e) l = absurd (false≢true (sym (nothing_below (suc m * up e * 1) (down e)) ∙ l))
 
-zero-root : (x : Float) → lt Binary64.zero x ≡ false → lt x Binary64.zero ≡ false → x ≡ sqrt x
+zero_root : (x : Float) → lt Binary64.zero x ≡ false → lt x Binary64.zero ≡ false → x ≡ sqrt x
 unfolding lt of_bits sqrt
-zero-root nan l g = refl
-zero-root (inf true) l g = absurd (false≢true (sym g))
-zero-root (inf false) l g = refl
-zero-root (fin s zero e) l g = refl
-zero-root (fin true (suc m) e) l g = absurd (false≢true (sym g ∙ some-sum m (up e) (down e) (up_pos e)))
-zero-root (fin false (suc m) e) l g = absurd (false≢true (sym l ∙ some-above m (up e) (down e) (up_pos e)))
+zero_root nan l g = refl
+zero_root (inf true) l g = absurd (false≢true (sym g))
+zero_root (inf false) l g = refl
+zero_root (fin s zero e) l g = refl
+zero_root (fin true (suc m) e) l g = absurd (false≢true (sym g ∙ some_sum m (up e) (down e) (up_pos e)))
+zero_root (fin false (suc m) e) l g = absurd (false≢true (sym l ∙ some_above m (up e) (down e) (up_pos e)))
 
--- ---- the needs
-held : (c : tie.Start) → T (fits binary64 c.args.x)
-held c = subst T (sym c.well-formed.0.1) tt
+-- ---- the goals
+
+held : (x : Float) → fits binary64 x ≡ true → T (fits binary64 x)
+held x p = subst T (sym p) tt
+
+-- what the pattern's root is, read back
+module _ (x : Float) (f : T (fits binary64 x)) (above : lt Binary64.zero x ≡ true) (plain : to_bits binary64 x < 0x7ff0_0000_0000_0000) where
+  rounded : CorrectlyRounded x (sqrt x)
+  rounded = correct x f above plain
+
+  bits : (r : ℕ) → r ≡ to_bits binary64 (sqrt (of_bits binary64 (to_bits binary64 x))) → r ≡ to_bits binary64 (sqrt x)
+  bits r e = e ∙ ap (λ (y : Float). to_bits binary64 (sqrt y)) (of_bits-to_bits binary64 x f)
+
+  no_nan : (r : ℕ) → r ≡ to_bits binary64 (sqrt (of_bits binary64 (to_bits binary64 x))) → T (not (nan_bits binary64 r))
+  no_nan r e = rw (bits r e) (no_nan_bits x rounded)
+
+  root : (r : ℕ) → r ≡ to_bits binary64 (sqrt (of_bits binary64 (to_bits binary64 x))) → of_bits binary64 r ≡ sqrt x
+  root r e = ap (of_bits binary64) (bits r e) ∙ of_bits-to_bits binary64 (sqrt x) rounded.held
 
 pub float_to_bits-b : goal.float_to_bits-b
 float_to_bits-b c = number c.args.x c.if-x.true
 
 pub root_of_pattern-requires : goal.root_of_pattern-requires
-root_of_pattern-requires c = (some_bits c.args.x (held c) c.if-x.true, c.if-b-lt-INFINITY.true)
+root_of_pattern-requires c = (some_bits c.args.x (held _ c.well_formed.0.1) c.if-x.true, c.if-b-lt-INFINITY.true)
 
 pub float_from_bits-result : goal.float_from_bits-result
-unfolding start
-float_from_bits-result c = rw (bits c) (no_nan_bits (start c).args.x (rounded c))
+float_from_bits-result c = no_nan c.args.x (held _ c.well_formed.0.1) c.if-x.true c.if-b-lt-INFINITY.true _ c.root_of_pattern.ensures
 
 pub returns-then-b-lt-INFINITY : goal.returns-then-b-lt-INFINITY
-unfolding start
-returns-then-b-lt-INFINITY c = ap (of_bits binary64) (bits c) ∙ of_bits-to_bits binary64 (sqrt (start c).args.x) (rounded c).held
+returns-then-b-lt-INFINITY c = root c.args.x (held _ c.well_formed.0.1) c.if-x.true c.if-b-lt-INFINITY.true _ c.root_of_pattern.ensures
 
 pub returns-then-x : goal.returns-then-x
-returns-then-x c = infinite c.args.x (held c) c.if-b-lt-INFINITY.false c.if-x.true
+returns-then-x c = infinite c.args.x (held _ c.well_formed.0.1) c.if-b-lt-INFINITY.false c.if-x.true
 
 pub returns-then-x-2 : goal.returns-then-x-2
-returns-then-x-2 c = negative-root c.args.x c.if-x-2.true
+returns-then-x-2 c = negative_root c.args.x c.if-x-2.true
 
 pub returns-else-x-2 : goal.returns-else-x-2
-returns-else-x-2 c = zero-root c.args.x c.if-x.false c.if-x-2.false
+returns-else-x-2 c = zero_root c.args.x c.if-x.false c.if-x-2.false
