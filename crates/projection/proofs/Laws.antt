@@ -15,11 +15,11 @@ use Rattle.refusal.specs.Refused.{is_none}
 use Rattle.projection.specs.Projection.{in_front, linearized, all_finite, not_projectable, pixel_projection}
 
 -- the tests of the coordinates and of the depth
-pub in_front : (point : List Float) (f g h : Bool) (x y z m : Float) → f ≡ is_finite (point ! 0) → g ≡ is_finite (point ! 1) → h ≡ is_finite (point ! 2)
+pub in_front_lem : (point : List Float) (f g h : Bool) (x y z m : Float) → f ≡ is_finite (point ! 0) → g ≡ is_finite (point ! 1) → h ≡ is_finite (point ! 2)
     → x ≡ abs (point ! 0) → y ≡ abs (point ! 1) → z ≡ abs (point ! 2) → m ≡ largest (x ∷ y ∷ z ∷ [])
     → (f && g && h && not (le (point ! 2) (epsilon64 ⊗ m))) ≡ in_front point
 unfolding in_front
-in_front point f g h x y z m ef eg eh ex ey ez em = rw (em, ef, eg, eh, ex, ey, ez) refl
+in_front_lem point f g h x y z m ef eg eh ex ey ez em = rw (em, ef, eg, eh, ex, ey, ez) refl
 
 -- the three answers, by the tests that lead to each
 module _ (camera : PinholeCamera) (observation point : List Float) (f : Bool) (front : f ≡ in_front point) where

@@ -1,4 +1,4 @@
--- A non-finite rotation or translation makes every point of the second view one that is not projectable (`not_projectable`). Assumes nothing.
+-- A non-finite rotation or translation makes every point of the second view one that is not projectable (`not_projectable_lem`). Assumes nothing.
 use mathlib.Core.Path.{◌≡◌, refl, sym, ◌∙◌}
 use mathlib.Core.Bool.{Bool, true, false, ◌&&◌, true≢false}
 use mathlib.Core.List.{List}
@@ -90,8 +90,8 @@ module _ (rotation translation point : List Float) where
       by true e k = absurd (true≢false (sym (is_true (is_finite x) (k tt)) ∙ n))
       by false e k = sym (behind camera observation moved false (sym e) not_projectable refl refl)
 
-pub not_projectable : (rotation translation : List Float) → NotProjectable rotation translation
-not_projectable rotation translation = record {
+pub not_projectable_lem : (rotation translation : List Float) → NotProjectable rotation translation
+not_projectable_lem rotation translation = record {
   bad_rotation = λ i l n camera observation point. refused rotation translation point (rotation ! i) (λ h. rotation_finite rotation translation point h i l) n camera observation;
   bad_translation = λ i l n camera observation point. refused rotation translation point (translation ! i) (λ h. translation_finite rotation translation point h i l) n camera observation;
 }

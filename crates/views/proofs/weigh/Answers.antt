@@ -1,0 +1,32 @@
+use mathlib.Core.Path.{◌≡◌, refl, ap, ◌∙◌}
+use mathlib.Core.List.{List}
+use Prim.Native.Nat.{ℕ, ◌-◌, ◌≤◌}
+use lib.ListN.{length, length-set}
+use lib.Ieee.{Float}
+use native.Mathlib.Omega.{arith}
+use Rattle.number.proofs.Fill.{filled, fill_next, fill_all, filled_at}
+use Rattle.number.specs.Binary64.{◌⊗◌}
+use Rattle.number.specs.Vectors.{◌!◌}
+use Rattle.views.proofs.weigh.Goals as goal
+
+-- `views::weigh` meets its contract. Assumes nothing.
+abbrev entry : List Float → Float → ℕ → Float
+entry x₀ weight i = weight ⊗ x₀ ! i
+
+pub loop-i-init : goal.loop-i-init
+loop-i-init c = (omega arith, refl, refl, refl)
+
+pub loop-i-preserved : goal.loop-i-preserved
+loop-i-preserved c =
+    let l = c in
+    let a = l.args in
+    (omega arith, l.loop-i.invariant.1, length-set l.loop-i.x _ _ ∙ l.loop-i.invariant.2, fill_next a.x.now l.loop-i.x (entry a.x.now a.weight) l.loop-i.i _ l.loop-i.invariant.3 (ap (λ (v : Float). a.weight ⊗ v) (filled_at a.x.now _ _ _ l.loop-i.invariant.3 (omega arith))) (omega arith))
+
+pub shape_of-x : goal.shape_of-x
+shape_of-x c = c.loop-i.invariant.2
+
+pub returns : goal.returns
+returns c =
+    let l = c in
+    let a = l.args in
+    fill_all a.x.now _ (entry a.x.now a.weight) l.loop-i.i _ l.loop-i.invariant.3 (omega arith) refl

@@ -1,0 +1,16 @@
+use mathlib.Core.Path.{◌≡◌, refl, ap, ◌∙◌}
+use mathlib.Core.List.{List}
+use Prim.Native.Nat.{ℕ, ◌-◌, ◌≤◌}
+use lib.ListN.{length, length-set}
+use lib.Ieee.{Float}
+use native.Mathlib.Omega.{arith}
+use Rattle.number.proofs.Fill.{filled, fill_next, fill_all, filled_at}
+use Rattle.number.specs.Binary64.{◌⊗◌}
+use Rattle.number.specs.Vectors.{◌!◌}
+use Rattle.views.proofs.weigh.Given as goal
+
+abbrev pub invariant-loop-i : goal.invariant-loop-i
+invariant-loop-i l = (l.i ≤ l.i-end) × (l.i-end ≡ length l.initial.x) × (length l.x ≡ length l.initial.x) × (l.x ≡ filled l.initial.x (entry l.initial.x l.weight) l.i)
+
+abbrev pub decreases-loop-i : goal.decreases-loop-i
+decreases-loop-i l = l.i-end - l.i
