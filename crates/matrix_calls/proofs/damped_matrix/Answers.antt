@@ -29,13 +29,6 @@ module _ (tested good : Bool) (e : tested ≡ good) (refusal : Refusal) where
   passed : (r : Refusal) → not tested ≡ false → r ≡ refusal → r ≡ cond good refusal (of Rows.damping)
   passed r t p = rw (← e, not-false tested t) p
 
-fit : (c : tie.Else1) → (length c.before.before.before.args.matrix.now ≡ 9) × (length c.before.before.before.args.out.now ≡ 9)
-fit c = two_fit (length c.before.before.before.args.matrix.now) (length c.before.before.before.args.out.now) 9 9 c.if1.false
-
--- an array in a struct has its length
-sized : (c : tie.After-answer-arg) → length c.before.before.before.before.damped-matrix.result.matrix ≡ 9
-sized c = search rules
-
 pub returns-then-not-matrix-out : goal.returns-then-not-matrix-out
 unfolding damped_matrix
 returns-then-not-matrix-out c = too_short _ _ _ _ _ (ap not c.if-not-matrix-out.true) c.lengths.ensures
@@ -49,9 +42,9 @@ returns-then-not-good_damping c =
 pub returns : goal.returns
 unfolding damped_matrix
 returns c =
-    let f = fit c in
+    let f = (let it : (length c.args.matrix.now ≡ 9) × (length c.args.out.now ≡ 9) = two_fit (length c.args.matrix.now) (length c.args.out.now) 9 9 (ap not c.if-not-matrix-out.false) in it) in
     let a = c in
     let tested = a in
     let start = tested in
     let e = a.damped_matrix-d.ensures ∙ ap (λ (m : List Float). Damping.damped_matrix m start.args.damping) (whole _ 9 _ f.0 a.vector9.ensures) in
-    answers _ _ _ _ _ _ _ _ (ap not tested.if-not-matrix-out.false) (passed _ _ tested.good_damping.ensures _ _ (ap not tested.if-not-good_damping.false) (ap (λ (d : DampedMatrix). d.refusal-1) e)) (ap (λ (d : DampedMatrix). d.matrix) e) (sized a ∙ sym f.1) a.answer.ensures
+    answers _ _ _ _ _ _ _ _ (ap not tested.if-not-matrix-out.false) (passed _ _ tested.good_damping.ensures _ _ (ap not tested.if-not-good_damping.false) (ap (λ (d : DampedMatrix). d.refusal) e)) (ap (λ (d : DampedMatrix). d.matrix) e) ((let it : length a.damped_matrix-d.result.matrix ≡ 9 = search rules in it) ∙ sym f.1) a.answer.ensures

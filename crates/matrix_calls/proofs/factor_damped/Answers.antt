@@ -11,14 +11,6 @@ use borrow.Author.Rules.{rules}
 use mathlib.Core.Bool.{not}
 use Rattle.matrix_calls.proofs.factor_damped.Goals as goal
 
--- `matrix_calls::factor_damped` meets its contract. Assumes nothing.
-fit : (c : tie.Else1) → (length c.before.before.before.args.matrix.now ≡ 9) × (length c.before.before.before.args.out.now ≡ 6)
-fit c = two_fit (length c.before.before.before.args.matrix.now) (length c.before.before.before.args.out.now) 9 6 c.if1.false
-
--- an array in a struct has its length
-sized : (c : tie.After-answer-arg) → length c.before.before.before.before.factor-damped.result.inverse ≡ 6
-sized c = search rules
-
 pub returns-then-not-matrix-out : goal.returns-then-not-matrix-out
 unfolding factor_damped
 returns-then-not-matrix-out c = too_short _ _ _ _ _ (ap not c.if-not-matrix-out.true) c.lengths.ensures
@@ -26,8 +18,8 @@ returns-then-not-matrix-out c = too_short _ _ _ _ _ (ap not c.if-not-matrix-out.
 pub returns : goal.returns
 unfolding factor_damped
 returns c =
-    let f = fit c in
+    let f = (let it : (length c.args.matrix.now ≡ 9) × (length c.args.out.now ≡ 6) = two_fit (length c.args.matrix.now) (length c.args.out.now) 9 6 (ap not c.if-not-matrix-out.false) in it) in
     let a = c in
     let start = a in
     let e = a.factor_damped-f.ensures ∙ ap (λ (m : List Float). Factor.factor_damped m) (whole _ 9 _ f.0 a.vector9.ensures) in
-    answers _ _ _ _ _ _ _ _ (ap not a.if-not-matrix-out.false) (ap (λ (d : PointBlockFactor). d.refusal-1) e) (ap (λ (d : PointBlockFactor). d.inverse) e) (sized a ∙ sym f.1) a.answer.ensures
+    answers _ _ _ _ _ _ _ _ (ap not a.if-not-matrix-out.false) (ap (λ (d : PointBlockFactor). d.refusal) e) (ap (λ (d : PointBlockFactor). d.inverse) e) ((let it : length a.factor_damped-f.result.inverse ≡ 6 = search rules in it) ∙ sym f.1) a.answer.ensures

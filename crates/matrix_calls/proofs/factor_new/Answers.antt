@@ -11,14 +11,6 @@ use borrow.Author.Rules.{rules}
 use mathlib.Core.Bool.{not}
 use Rattle.matrix_calls.proofs.factor_new.Goals as goal
 
--- `matrix_calls::factor_new` meets its contract. Assumes nothing.
-fit : (c : tie.Else1) → (length c.before.before.before.args.matrix.now ≡ 9) × (length c.before.before.before.args.out.now ≡ 7)
-fit c = two_fit (length c.before.before.before.args.matrix.now) (length c.before.before.before.args.out.now) 9 7 c.if1.false
-
--- the array has its length
-sized : (c : tie.After-answer-arg) → length c.before.before.factor-numbers.result ≡ 7
-sized c = search rules
-
 pub returns-then-not-matrix-out : goal.returns-then-not-matrix-out
 unfolding lone_factor
 returns-then-not-matrix-out c = too_short _ _ _ _ _ (ap not c.if-not-matrix-out.true) c.lengths.ensures
@@ -26,8 +18,8 @@ returns-then-not-matrix-out c = too_short _ _ _ _ _ (ap not c.if-not-matrix-out.
 pub returns : goal.returns
 unfolding lone_factor
 returns c =
-    let f = fit c in
+    let f = (let it : (length c.args.matrix.now ≡ 9) × (length c.args.out.now ≡ 7) = two_fit (length c.args.matrix.now) (length c.args.out.now) 9 7 (ap not c.if-not-matrix-out.false) in it) in
     let a = c in
     let start = a in
     let e = a.new-f.ensures ∙ ap (λ (m : List Float). Lone.lone_factor m start.args.damping) (whole _ 9 _ f.0 a.vector9.ensures) in
-    answers _ _ _ _ _ _ _ _ (ap not a.if-not-matrix-out.false) (ap (λ (d : LoneFactor). d.refusal-1) e) (c.factor_numbers-values.ensures ∙ ap (λ (p : LoneFactor). factor_numbers p) e) (sized c ∙ sym f.1) a.answer.ensures
+    answers _ _ _ _ _ _ _ _ (ap not a.if-not-matrix-out.false) (ap (λ (d : LoneFactor). d.refusal) e) (c.factor_numbers-values.ensures ∙ ap (λ (p : LoneFactor). factor_numbers p) e) ((let it : length c.factor_numbers-values.result ≡ 7 = search rules in it) ∙ sym f.1) a.answer.ensures

@@ -10,14 +10,6 @@ use borrow.Author.Rules.{rules}
 use mathlib.Core.Bool.{not}
 use Rattle.matrix_calls.proofs.factor_solve.Goals as goal
 
--- `matrix_calls::factor_solve` meets its contract. Assumes nothing.
-fit : (c : tie.Else1) → (length c.before.before.before.before.args.inverse.now ≡ 6) × (length c.before.before.before.before.args.x.now ≡ 3) × (length c.before.before.before.before.args.out.now ≡ 3)
-fit c = three_fit (length c.before.before.before.before.args.inverse.now) (length c.before.before.before.before.args.x.now) (length c.before.before.before.before.args.out.now) 6 3 3 c.if1.false
-
--- an array in a struct has its length
-sized : (c : tie.After-answer-arg) → length c.before.before.before.solve.result ≡ 3
-sized c = search rules
-
 pub returns-then-not-inverse-x : goal.returns-then-not-inverse-x
 unfolding factor_solve
 returns-then-not-inverse-x c = too_short _ _ _ _ _ (ap not c.if-not-inverse-x.true) c.lengths.ensures
@@ -25,11 +17,11 @@ returns-then-not-inverse-x c = too_short _ _ _ _ _ (ap not c.if-not-inverse-x.tr
 pub returns : goal.returns
 unfolding factor_solve
 returns c =
-    let f = fit c in
+    let f = (let it : (length c.args.inverse.now ≡ 6) × (length c.args.x.now ≡ 3) × (length c.args.out.now ≡ 3) = three_fit (length c.args.inverse.now) (length c.args.x.now) (length c.args.out.now) 6 3 3 (ap not c.if-not-inverse-x.false) in it) in
     let a = c in
     let start = a in
     let e =
     a.solve-values.ensures
     ∙ ap (λ (m : List Float). Factor.solve m a.vector3.result) (whole start.args.inverse.now 6 _ f.0 a.vector6.ensures)
     ∙ ap (λ (m : List Float). Factor.solve start.args.inverse.now m) (whole start.args.x.now 3 _ f.1 a.vector3.ensures) in
-    answers _ _ _ _ _ _ _ _ (ap not a.if-not-inverse-x.false) a.none-2.ensures e (sized a ∙ sym f.2) a.answer.ensures
+    answers _ _ _ _ _ _ _ _ (ap not a.if-not-inverse-x.false) a.none-2.ensures e ((let it : length a.solve-values.result ≡ 3 = search rules in it) ∙ sym f.2) a.answer.ensures

@@ -10,10 +10,6 @@ use borrow.Author.Rules.{rules}
 use mathlib.Core.Bool.{not}
 use Rattle.matrix_calls.proofs.reciprocal_condition_number.Goals as goal
 
--- `matrix_calls::reciprocal_condition_number` meets its contract. Assumes nothing.
-fit : (c : tie.Else1) → (length c.before.before.before.before.args.inverse.now ≡ 6) × (length c.before.before.before.before.args.matrix.now ≡ 9) × (length c.before.before.before.before.args.out.now ≡ 1)
-fit c = three_fit (length c.before.before.before.before.args.inverse.now) (length c.before.before.before.before.args.matrix.now) (length c.before.before.before.before.args.out.now) 6 9 1 c.if1.false
-
 pub returns-then-not-inverse-matrix : goal.returns-then-not-inverse-matrix
 unfolding reciprocal_condition_number
 returns-then-not-inverse-matrix c = too_short _ _ _ _ _ (ap not c.if-not-inverse-matrix.true) c.lengths.ensures
@@ -21,7 +17,7 @@ returns-then-not-inverse-matrix c = too_short _ _ _ _ _ (ap not c.if-not-inverse
 pub returns : goal.returns
 unfolding reciprocal_condition_number
 returns c =
-    let f = fit c in
+    let f = (let it : (length c.args.inverse.now ≡ 6) × (length c.args.matrix.now ≡ 9) × (length c.args.out.now ≡ 1) = three_fit (length c.args.inverse.now) (length c.args.matrix.now) (length c.args.out.now) 6 9 1 (ap not c.if-not-inverse-matrix.false) in it) in
     let a = c in
     let start = a in
     let e =

@@ -11,6 +11,6 @@ unfolding second_view
 returns c =
     let w = c in
     let a = w.args in
-    let ten : length a.by-pose ≡ 10 = omega arith in
-    let six : length a.by-point ≡ 6 = omega arith in
+    let ten : length a.by_pose ≡ 10 = omega arith in
+    let six : length a.by_point ≡ 6 = omega arith in
     rw (c.weigh-2.ensures, w.weigh.ensures, ten, six) refl

@@ -8,10 +8,7 @@ use Rattle.number.proofs.Fill.{filled, fill_next, fill_all, filled_at}
 use Rattle.number.specs.Binary64.{◌⊗◌}
 use Rattle.number.specs.Vectors.{◌!◌}
 use Rattle.views.proofs.weigh.Goals as goal
-
--- `views::weigh` meets its contract. Assumes nothing.
-abbrev entry : List Float → Float → ℕ → Float
-entry x₀ weight i = weight ⊗ x₀ ! i
+use Rattle.views.proofs.weigh.Invariants.{entry}
 
 pub loop-i-init : goal.loop-i-init
 loop-i-init c = (omega arith, refl, refl, refl)

@@ -9,6 +9,10 @@ use Rattle.number.specs.Binary64.{◌⊗◌}
 use Rattle.number.specs.Vectors.{◌!◌}
 use Rattle.views.proofs.weigh.Given as goal
 
+-- `views::weigh` meets its contract. Assumes nothing.
+abbrev pub entry : List Float → Float → ℕ → Float
+entry x₀ weight i = weight ⊗ x₀ ! i
+
 abbrev pub invariant-loop-i : goal.invariant-loop-i
 invariant-loop-i l = (l.i ≤ l.i-end) × (l.i-end ≡ length l.initial.x) × (length l.x ≡ length l.initial.x) × (l.x ≡ filled l.initial.x (entry l.initial.x l.weight) l.i)
 

@@ -1,0 +1,41 @@
+use Rattle.checks.specs.Checks.{max_points, refused}
+use Rattle.refusal.specs.Rows as Rows
+use Rattle.refusal.specs.Refused.{of}
+use lib.Dec.{leb}
+use lib.ListN.{length}
+use mathlib.Core.Bool.{Bool}
+use Rattle.refusal.proofs.Scans.{stop_unless, pass_unless}
+use Rattle.checks.proofs.Parts.{fits}
+use Rattle.checks.proofs.Passed.{all_fit}
+use mathlib.Core.Path.{refl}
+use borrow.Author.Rules.{rules}
+use mathlib.Core.Path.{ap}
+use mathlib.Core.Bool.{not}
+use Rattle.checks.proofs.rows.refused.Goals as goal
+
+-- `checks::rows::refused` meets its contract. Assumes nothing.
+abbrev few : tie.Else1 → Bool
+few c = leb (length c.before.before.before.before.before.before.before.before.args.inverse-deviations.now) max_points
+
+pub returns-then-not-belongs : goal.returns-then-not-belongs
+unfolding refused
+returns-then-not-belongs c =
+    let one = c in
+    stop_unless _ _ _ _ _ (fits one.belongs.ensures one.belongs-2.ensures one.belongs-3.ensures) refl (ap not one.if-not-belongs.true) c.of.ensures
+
+pub returns-then-not-n : goal.returns-then-not-n
+unfolding refused
+returns-then-not-n c =
+    let one = c in
+    pass_unless _ _ _ _ _ (fits one.belongs.ensures one.belongs-2.ensures one.belongs-3.ensures) (ap not one.if-not-belongs.false) (stop_unless (of Rows.too_many_points) _ _ (few one) _ refl refl (ap not c.if-not-n.true) c.of-then-not-n.ensures)
+
+pub values_refused-requires : goal.values_refused-requires
+values_refused-requires c =
+    let one = c in
+    all_fit _ _ _ _ _ _ _ one.belongs.ensures one.belongs-2.ensures one.belongs-3.ensures (ap not one.if-not-belongs.false) (ap not c.if-not-n.false)
+
+pub returns : goal.returns
+unfolding refused
+returns c =
+    let one = c in
+    pass_unless _ _ _ _ _ (fits one.belongs.ensures one.belongs-2.ensures one.belongs-3.ensures) (ap not one.if-not-belongs.false) (pass_unless (of Rows.too_many_points) _ _ (few one) _ refl (ap not c.if-not-n.false) c.values_refused.ensures)

@@ -1,0 +1,19 @@
+use mathlib.Core.Path.{◌≡◌, refl}
+use Prim.Native.Nat.{◌-◌, ◌≤◌}
+use native.Mathlib.Omega.{arith}
+use borrow.Author.Rules.{rules}
+use Rattle.number.proofs.Fill.{filled_of, array_none, array_next, array_full}
+use Rattle.number.specs.Binary64.{◌⊕◌, ◌⊖◌}
+use Rattle.number.specs.Vectors.{◌!◌}
+use Rattle.elimination.specs.Elimination.{dot3, cross_row, reduced_gradient}
+use Rattle.elimination.proofs.reduced_gradient.Goals as goal
+
+pub loop-i-init : goal.loop-i-init
+loop-i-init c = (omega arith, array_none 5 _)
+
+pub loop-i-preserved : goal.loop-i-preserved
+loop-i-preserved c = (omega arith, array_next _ _ _ _ _ c.loop-i.invariant.1 (rw (c.dot3.ensures, c.cross_row.ensures) refl) (omega arith))
+
+pub returns : goal.returns
+unfolding reduced_gradient
+returns c = rw (← c.inverse_gradient-x.ensures) (array_full _ _ _ _ c.loop-i.invariant.1 (omega arith))

@@ -1,0 +1,15 @@
+use mathlib.Core.Path.{◌≡◌, refl}
+use Prim.Native.Nat.{◌-◌, ◌≤◌}
+use native.Mathlib.Omega.{arith}
+use borrow.Author.Rules.{rules}
+use Rattle.number.proofs.Fill.{filled_of, array_none, array_next, array_full}
+use Rattle.number.specs.Binary64.{◌⊕◌, ◌⊖◌}
+use Rattle.number.specs.Vectors.{◌!◌}
+use Rattle.elimination.specs.Elimination.{dot3, cross_row, reduced_gradient}
+use Rattle.elimination.proofs.reduced_gradient.Given as goal
+
+abbrev pub invariant-loop-i : goal.invariant-loop-i
+invariant-loop-i l = (l.i ≤ 5) × (l.out ≡ filled_of 5 (λ i. l.g ! i ⊕ (l.p ! i ⊖ dot3 (cross_row l.c i) l.x)) l.i)
+
+abbrev pub decreases-loop-i : goal.decreases-loop-i
+decreases-loop-i l = 5 - l.i

@@ -1,0 +1,16 @@
+use mathlib.Core.Path.{◌≡◌, refl, ◌∙◌}
+use mathlib.Core.List.{[], ◌∷◌}
+use Prim.Native.Nat.{◌*◌, ◌-◌, ◌≤◌}
+use lib.ListN.{get_or}
+use native.Mathlib.Omega.{arith}
+use borrow.Author.Rules.{rules}
+use Rattle.number.proofs.Fill.{filled_of, by_rows, array_none, array_full, row_of_five}
+use Rattle.elimination.specs.Elimination.{dot3, cross_row}
+use Rattle.elimination.proofs.Rows.{solved, term_is}
+use Rattle.elimination.proofs.schur_term.Given as goal
+
+abbrev pub invariant-loop-i : goal.invariant-loop-i
+invariant-loop-i l = (l.i ≤ 5) × (l.out ≡ filled_of 25 (by_rows 5 (λ i j. dot3 (cross_row l.c i) (get_or (l.x0 ∷ l.x1 ∷ l.x2 ∷ l.x3 ∷ l.x4 ∷ []) j []))) (5 * l.i))
+
+abbrev pub decreases-loop-i : goal.decreases-loop-i
+decreases-loop-i l = 5 - l.i

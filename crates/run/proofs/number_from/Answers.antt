@@ -1,0 +1,15 @@
+use Rattle.run.specs.Run.{half, word, number_at}
+use lib.Ieee.{binary64, of_bits}
+use Prim.Native.Nat.{ℕ, ◌+◌, ◌*◌}
+use mathlib.Core.Path.{ap, ◌∙◌}
+use native.Mathlib.Omega.{arith}
+use borrow.Author.Rules.{rules}
+use Rattle.run.proofs.number_from.Goals as goal
+
+-- `run::number_from` meets its contract. Assumes nothing.
+pub returns : goal.returns
+unfolding word number_at
+returns c =
+    c.from_bits.ensures
+    ∙ ap (λ (k : ℕ). of_bits binary64 (k + 4294967296 * c.half_at-high.result)) c.half_at-low.ensures.0
+    ∙ ap (λ (k : ℕ). of_bits binary64 (half c.args.«record».now c.args.at + 4294967296 * k)) c.half_at-high.ensures.0

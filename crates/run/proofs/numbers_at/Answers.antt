@@ -1,0 +1,24 @@
+use mathlib.Core.Path.{◌∙◌, ◌≡◌, refl}
+use lib.ListN.{length, length-set}
+use Rattle.number.proofs.Fill.{filled, fill_next, fill_all}
+use Rattle.run.specs.Run.{number_at}
+use Prim.Native.Nat.{◌+◌, ◌*◌, ◌-◌, ◌≤◌}
+use native.Mathlib.Omega.{arith}
+use Rattle.run.proofs.numbers_at.Goals as goal
+
+pub loop-j-init : goal.loop-j-init
+loop-j-init c = (omega arith, refl, refl, refl)
+
+pub loop-j-preserved : goal.loop-j-preserved
+loop-j-preserved c =
+    let l = c in
+    let a = l.args in
+    (omega arith, l.loop-j.invariant.1, length-set l.loop-j.out _ _ ∙ l.loop-j.invariant.2, fill_next a.out.now l.loop-j.out (λ k. number_at a.«record».now (a.at + 8 * k)) l.loop-j.j _ l.loop-j.invariant.3 c.number_from.ensures (omega arith))
+
+pub shape_of-out : goal.shape_of-out
+shape_of-out c = c.loop-j.invariant.2
+
+pub returns : goal.returns
+returns c =
+    let l = c in
+    fill_all _ _ _ l.loop-j.j _ l.loop-j.invariant.3 (omega arith) refl
