@@ -7,4 +7,4 @@ pub returns : goal.returns
 returns c =
     let n = c in
     let d = n in
-    stepped_is _ _ _ _ _ _ _ d.step_of_lem.ensures d.damping_diagonal-diagonal.ensures n.damping_norm.ensures c.none.ensures
+    stepped_is _ _ _ _ _ _ _ d.step_of-step.ensures d.damping_diagonal-diagonal.ensures n.damping_norm.ensures c.none.ensures

@@ -13,10 +13,6 @@ use mathlib.Core.Path.{ap}
 use mathlib.Core.Bool.{not}
 use Rattle.checks.proofs.rows.refused.Goals as goal
 
--- `checks::rows::refused` meets its contract. Assumes nothing.
-abbrev few : tie.Else1 → Bool
-few c = leb (length c.before.before.before.before.before.before.before.before.args.inverse-deviations.now) max_points
-
 pub returns-then-not-belongs : goal.returns-then-not-belongs
 unfolding refused
 returns-then-not-belongs c =
@@ -27,7 +23,7 @@ pub returns-then-not-n : goal.returns-then-not-n
 unfolding refused
 returns-then-not-n c =
     let one = c in
-    pass_unless _ _ _ _ _ (fits one.belongs.ensures one.belongs-2.ensures one.belongs-3.ensures) (ap not one.if-not-belongs.false) (stop_unless (of Rows.too_many_points) _ _ (few one) _ refl refl (ap not c.if-not-n.true) c.of-then-not-n.ensures)
+    pass_unless _ _ _ _ _ (fits one.belongs.ensures one.belongs-2.ensures one.belongs-3.ensures) (ap not one.if-not-belongs.false) (stop_unless (of Rows.too_many_points) _ _ ((leb (length one.args.inverse_deviations.now) max_points)) _ refl refl (ap not c.if-not-n.true) c.of-then-not-n.ensures)
 
 pub values_refused-requires : goal.values_refused-requires
 values_refused-requires c =
@@ -38,4 +34,4 @@ pub returns : goal.returns
 unfolding refused
 returns c =
     let one = c in
-    pass_unless _ _ _ _ _ (fits one.belongs.ensures one.belongs-2.ensures one.belongs-3.ensures) (ap not one.if-not-belongs.false) (pass_unless (of Rows.too_many_points) _ _ (few one) _ refl (ap not c.if-not-n.false) c.values_refused.ensures)
+    pass_unless _ _ _ _ _ (fits one.belongs.ensures one.belongs-2.ensures one.belongs-3.ensures) (ap not one.if-not-belongs.false) (pass_unless (of Rows.too_many_points) _ _ ((leb (length one.args.inverse_deviations.now) max_points)) _ refl (ap not c.if-not-n.false) c.values_refused.ensures)

@@ -12,10 +12,6 @@ use mathlib.Core.Path.{ap}
 use mathlib.Core.Bool.{not}
 use Rattle.checks.proofs.rows.values_refused.Goals as goal
 
--- `checks::rows::values_refused` meets its contract. Assumes nothing.
-abbrev enough : tie.Else4 → Bool
-enough c = leb min_points (length c.before.before.before.before.before.before.before.before.before.before.before.before.before.before.before.args.inverse-deviations.now)
-
 pub returns-then-not-good_damping : goal.returns-then-not-good_damping
 unfolding values_refused
 returns-then-not-good_damping c =
@@ -59,7 +55,7 @@ returns-then-not-n c =
     (pass _ _ _ _ two.deviations_refused-by_deviation.ensures two.is_none.ensures (ap not two.if-not-is_none.false) _
     (pass_unless _ _ _ _ _ three.good_baseline.ensures (ap not three.if-not-good_baseline.false)
     (pass _ _ _ _ four.points_refused-by_point.ensures four.is_none-2.ensures (ap not four.if-not-is_none-2.false) _
-    (stop_unless (of Rows.too_few_points) _ _ (enough c) _ refl refl (ap not c.if-not-n.true) c.of-then-not-n.ensures))))
+    (stop_unless (of Rows.too_few_points) _ _ ((leb min_points (length c.args.inverse_deviations.now))) _ refl refl (ap not c.if-not-n.true) c.of-then-not-n.ensures))))
 
 pub returns : goal.returns
 unfolding values_refused
@@ -73,5 +69,5 @@ returns c =
     (pass _ _ _ _ two.deviations_refused-by_deviation.ensures two.is_none.ensures (ap not two.if-not-is_none.false) _
     (pass_unless _ _ _ _ _ three.good_baseline.ensures (ap not three.if-not-good_baseline.false)
     (pass _ _ _ _ four.points_refused-by_point.ensures four.is_none-2.ensures (ap not four.if-not-is_none-2.false) _
-    (pass_unless (of Rows.too_few_points) _ _ (enough four) _ refl (ap not five.if-not-n.false)
+    (pass_unless (of Rows.too_few_points) _ _ ((leb min_points (length four.args.inverse_deviations.now))) _ refl (ap not five.if-not-n.false)
     c.seen_refused.ensures))))

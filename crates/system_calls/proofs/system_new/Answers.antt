@@ -1,0 +1,24 @@
+use mathlib.Core.Path.{◌≡◌}
+use lib.ListN.{length}
+use Rattle.system_calls.specs.Calls.{new_system}
+use Rattle.answers.proofs.Laws.{two_fit}
+use Rattle.system_calls.proofs.Laws.{too_short_system, changes}
+use borrow.Author.Rules.{rules}
+use mathlib.Core.Path.{ap}
+use mathlib.Core.Bool.{not}
+use Rattle.system_calls.proofs.system_new.Goals as goal
+
+pub returns-then-not-system-counts : goal.returns-then-not-system-counts
+unfolding new_system
+returns-then-not-system-counts c = too_short_system _ _ _ _ _ _ (ap not c.if-not-system-counts.true) c.lengths.ensures
+
+pub answer-requires : goal.answer-requires
+answer-requires c =
+    let f = (let it : (length c.args.system.now ≡ 45) × (length c.args.counts.now ≡ 3) = two_fit (length c.args.system.now) (length c.args.counts.now) 45 3 (ap not c.if-not-system-counts.false) in it) in
+    (f.0, f.1)
+
+pub returns : goal.returns
+unfolding new_system
+returns c =
+    let f = (let it : (length c.args.system.now ≡ 45) × (length c.args.counts.now ≡ 3) = two_fit (length c.args.system.now) (length c.args.counts.now) 45 3 (ap not c.if-not-system-counts.false) in it) in
+    changes _ _ _ _ _ _ _ _ _ _ (ap not c.if-not-system-counts.false) c.none.ensures c.new.ensures c.answer.ensures
