@@ -1,3 +1,4 @@
+use borrow.Author.Tests.{le-leb, lt-leb}
 use Rattle.checks.specs.Checks.{max_points, refused}
 use Rattle.refusal.specs.Rows as Rows
 use Rattle.refusal.specs.Refused.{of}
@@ -23,15 +24,15 @@ pub returns-then-not-n : goal.returns-then-not-n
 unfolding refused
 returns-then-not-n c =
     let one = c in
-    pass_unless _ _ _ _ _ (fits one.belongs.ensures one.belongs-2.ensures one.belongs-3.ensures) (ap not one.if-not-belongs.false) (stop_unless (of Rows.too_many_points) _ _ ((leb (length one.args.inverse_deviations.now) max_points)) _ refl refl (ap not c.if-not-n.true) c.of-then-not-n.ensures)
+    pass_unless _ _ _ _ _ (fits one.belongs.ensures one.belongs-2.ensures one.belongs-3.ensures) (ap not one.if-not-belongs.false) (stop_unless (of Rows.too_many_points) _ _ ((leb (length one.args.inverse_deviations.now) max_points)) _ refl refl (ap not (lt-leb _ _ c.if-not-n.true)) c.of-then-not-n.ensures)
 
 pub values_refused-requires : goal.values_refused-requires
 values_refused-requires c =
     let one = c in
-    all_fit _ _ _ _ _ _ _ one.belongs.ensures one.belongs-2.ensures one.belongs-3.ensures (ap not one.if-not-belongs.false) (ap not c.if-not-n.false)
+    all_fit _ _ _ _ _ _ _ one.belongs.ensures one.belongs-2.ensures one.belongs-3.ensures (ap not one.if-not-belongs.false) (ap not (le-leb _ _ c.if-not-n.false))
 
 pub returns : goal.returns
 unfolding refused
 returns c =
     let one = c in
-    pass_unless _ _ _ _ _ (fits one.belongs.ensures one.belongs-2.ensures one.belongs-3.ensures) (ap not one.if-not-belongs.false) (pass_unless (of Rows.too_many_points) _ _ ((leb (length one.args.inverse_deviations.now) max_points)) _ refl (ap not c.if-not-n.false) c.values_refused.ensures)
+    pass_unless _ _ _ _ _ (fits one.belongs.ensures one.belongs-2.ensures one.belongs-3.ensures) (ap not one.if-not-belongs.false) (pass_unless (of Rows.too_many_points) _ _ ((leb (length one.args.inverse_deviations.now) max_points)) _ refl (ap not (le-leb _ _ c.if-not-n.false)) c.values_refused.ensures)

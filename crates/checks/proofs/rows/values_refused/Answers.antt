@@ -1,3 +1,4 @@
+use borrow.Author.Tests.{le-leb, lt-leb}
 use Rattle.checks.specs.Checks.{min_points, values_refused}
 use Rattle.refusal.specs.Rows as Rows
 use Rattle.refusal.specs.Refused.{of}
@@ -55,7 +56,7 @@ returns-then-not-n c =
     (pass _ _ _ _ two.deviations_refused-by_deviation.ensures two.is_none.ensures (ap not two.if-not-is_none.false) _
     (pass_unless _ _ _ _ _ three.good_baseline.ensures (ap not three.if-not-good_baseline.false)
     (pass _ _ _ _ four.points_refused-by_point.ensures four.is_none-2.ensures (ap not four.if-not-is_none-2.false) _
-    (stop_unless (of Rows.too_few_points) _ _ ((leb min_points (length c.args.inverse_deviations.now))) _ refl refl (ap not c.if-not-n.true) c.of-then-not-n.ensures))))
+    (stop_unless (of Rows.too_few_points) _ _ ((leb min_points (length c.args.inverse_deviations.now))) _ refl refl (ap not (lt-leb _ _ c.if-not-n.true)) c.of-then-not-n.ensures))))
 
 pub returns : goal.returns
 unfolding values_refused
@@ -69,5 +70,5 @@ returns c =
     (pass _ _ _ _ two.deviations_refused-by_deviation.ensures two.is_none.ensures (ap not two.if-not-is_none.false) _
     (pass_unless _ _ _ _ _ three.good_baseline.ensures (ap not three.if-not-good_baseline.false)
     (pass _ _ _ _ four.points_refused-by_point.ensures four.is_none-2.ensures (ap not four.if-not-is_none-2.false) _
-    (pass_unless (of Rows.too_few_points) _ _ ((leb min_points (length four.args.inverse_deviations.now))) _ refl (ap not five.if-not-n.false)
+    (pass_unless (of Rows.too_few_points) _ _ ((leb min_points (length four.args.inverse_deviations.now))) _ refl (ap not (le-leb _ _ five.if-not-n.false))
     c.seen_refused.ensures))))

@@ -1,0 +1,31 @@
+use lib.ListN.{length}
+use Rattle.correspondences.specs.Problem.{problem}
+use Rattle.assembly.specs.Assembly.{system_to}
+use Rattle.assembly.proofs.Systems.{system_none, system_next, system_all}
+use mathlib.Core.Path.{◌≡◌, refl}
+use Prim.Native.Nat.{◌-◌, ◌≤◌}
+use native.Mathlib.Omega.{arith}
+use borrow.Author.Rules.{rules}
+use Rattle.assembly.proofs.damped_system.Goals as goal
+
+pub loop-i-init : goal.loop-i-init
+loop-i-init c = (omega arith, refl, system_none _ _ c.new-system.ensures)
+
+pub overflow_step-i : goal.overflow_step-i
+overflow_step-i c =
+    let l = c in
+    omega (arith, c.loop-i-test, l.loop-i.invariant.1, l.requires)
+
+pub loop-i-smaller : goal.loop-i-smaller
+loop-i-smaller c = omega (arith, c.loop-i-test)
+
+pub loop-i-preserved : goal.loop-i-preserved
+loop-i-preserved c =
+    let a = c in
+    let l = a in
+    (omega arith, l.loop-i.invariant.1, system_next _ _ _ _ _ _ l.loop-i.invariant.2 a.correspondence_at-correspondence.ensures a.block_of-local.ensures a.add-added.ensures)
+
+pub returns : goal.returns
+returns c =
+    let l = c in
+    system_all _ _ _ _ l.loop-i.invariant.2 (omega arith) c.finish_damping-finished.ensures

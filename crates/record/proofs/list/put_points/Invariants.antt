@@ -1,0 +1,18 @@
+use Rattle.text.proofs.Puts.{put_same}
+use Rattle.fields.specs.Fields.{point_fields}
+use Rattle.run.specs.Run.{run}
+use Rattle.record.specs.Lists.{point_lines}
+use Rattle.text.specs.Text.{Put}
+use Rattle.record.proofs.Runs.{next_line, no_lines}
+use lib.ListN.{length}
+use mathlib.Core.Path.{ap, ◌∙◌, ◌≡◌, refl}
+use Prim.Native.Nat.{ℕ, ◌-◌, ◌≤◌}
+use native.Mathlib.Omega.{arith}
+use borrow.Author.Rules.{rules}
+use Rattle.record.proofs.list.put_points.Given as goal
+
+abbrev pub invariant-loop-i : goal.invariant-loop-i
+invariant-loop-i l = (l.i ≤ l.i-end) × (l.i-end ≡ point_fields l.record) × (length l.out ≡ length l.initial.out) × Put (point_lines (run l.record) l.i) l.start l.initial.out l.at l.out
+
+abbrev pub decreases-loop-i : goal.decreases-loop-i
+decreases-loop-i l = l.i-end - l.i
