@@ -81,7 +81,7 @@ fn added(rt: &impl Print, both: Both, local: LocalLinearization, damping: f64) -
     })
 }
 
-// Lends the system. The borrow checker covers no function that lends a struct, so this one is thin, and proved by a walk.
+// Lends the system.
 fn added_in_place(mut system: ReducedSystem, local: LocalLinearization, damping: f64) -> Added
     ensures { result ≡ System.add system local damping }
 {
