@@ -8,15 +8,17 @@ mod projections;
 mod roots;
 mod systems;
 
-fn main() {
-    show::named(b"root of 4", root::sqrt(4.0));
-    show::named(b"root of 2", root::sqrt(2.0));
-    show::named(b"root of -0", root::sqrt(-0.0));
-    projections::print();
-    blocks::print();
-    systems::print();
+use std::io;
+
+fn main(rt: HostRuntime) -> io::Result<()> {
+    show::named(&rt, b"root of 4", root::sqrt(4.0))?;
+    show::named(&rt, b"root of 2", root::sqrt(2.0))?;
+    show::named(&rt, b"root of -0", root::sqrt(-0.0))?;
+    projections::print(&rt)?;
+    blocks::print(&rt)?;
+    systems::print(&rt)?;
 
     let mut text = [0u8; 16384];
-    let n = io::read_full(0, &mut text);
-    roots::print(&text[..n]);
+    let n = stored_file::read_full(&mut rt.reader(), &mut text)?;
+    roots::print(&rt, &text[..n])
 }

@@ -1,22 +1,24 @@
 // The root vectors.
+use std::io;
 
 // A line for each line of text: `sqrt`, the pattern that its hexadecimal digits give and the pattern of its root.
-pub fn print(text: &[u8]) {
+pub fn print(rt: &impl Print, text: &[u8]) -> io::Result<()> {
     let mut b: u64 = 0;
     for i in 0..text.len() {
         let byte = text[i];
         if byte == b'\n' {
-            root(b);
+            root(rt, b)?;
             b = 0;
         } else {
             b = b % 0x1000_0000_0000_0000 * 16 + hex_digits::value(byte);
         }
     }
+    Ok(())
 }
 
-fn root(b: u64) {
-    show::text(b"sqrt");
-    show::pattern(b);
-    show::pattern(number::to_bits(root::sqrt(number::from_bits(b))));
-    show::end();
+fn root(rt: &impl Print, b: u64) -> io::Result<()> {
+    show::text(rt, b"sqrt")?;
+    show::pattern(rt, b)?;
+    show::pattern(rt, number::to_bits(root::sqrt(number::from_bits(b))))?;
+    show::end(rt)
 }

@@ -1,9 +1,11 @@
 // Reads a run record from standard input and prints its list.
 #![tactic(auto)]
 
-fn main() {
+use std::io;
+
+fn main(rt: HostRuntime) -> io::Result<()> {
     // one byte more than the longest record: more cannot change the list (`prefix-decides`)
     let mut bytes = [0u8; record::MAX_RECORD + 1];
-    let n = io::read_full(0, &mut bytes);
-    print_list::of(&bytes[..n]);
+    let n = stored_file::read_full(&mut rt.reader(), &mut bytes)?;
+    print_list::of(&rt, &bytes[..n])
 }

@@ -2,13 +2,21 @@
 ghost use Rattle.std.specs.Prelude.{◌≤◌, length};
 
 use crate::tally::{Form, Tally};
+use std::io;
+use std::rt::Files;
 
 // A file has at most 300,000 bytes.
 const ROOM: usize = 300_001;
 
 // The files NAME.txt of a list, by the numbers of inputs and of outputs that a line has; `first` is the
 // number of the first one's call.
-pub fn replay(names: &[u8], inputs: &[usize], outputs: &[usize], first: usize) {
+pub fn replay(
+    rt: &(impl Files + Print),
+    names: &[u8],
+    inputs: &[usize],
+    outputs: &[usize],
+    first: usize,
+) -> io::Result<()> {
     let mut start = 0;
     let mut i = 0;
     while start < names.len() {
@@ -18,10 +26,11 @@ pub fn replay(names: &[u8], inputs: &[usize], outputs: &[usize], first: usize) {
             outputs: at(outputs, i),
             call: std::num::wrapping_add_usize(first, i),
         };
-        replay_file(&names[start..end], form);
+        replay_file(rt, &names[start..end], form)?;
         start = end + 1;
         i = std::num::wrapping_add_usize(i, 1);
     }
+    Ok(())
 }
 
 // Where the word that begins at `start` ends
@@ -43,17 +52,22 @@ fn at(numbers: &[usize], i: usize) -> usize {
     if i < numbers.len() { numbers[i] } else { 0 }
 }
 
-fn replay_file(file: &[u8], form: Form) {
+fn replay_file(rt: &(impl Files + Print), file: &[u8], form: Form) -> io::Result<()> {
     let mut text = [0u8; ROOM];
-    replay_from(&mut text, file, form);
+    replay_from(rt, &mut text, file, form)
 }
 
-fn replay_from(text: &mut [u8], file: &[u8], form: Form) {
+fn replay_from(
+    rt: &(impl Files + Print),
+    text: &mut [u8],
+    file: &[u8],
+    form: Form,
+) -> io::Result<()> {
     if file.len() < 4 {
-        return;
+        return Ok(());
     }
     let point = file.len() - 4;
     let name = &file[0..point];
-    let n = stored_file::read(file, text);
-    Tally::of(&text[..n], name, form).show(name);
+    let n = stored_file::read(rt, file, text)?;
+    Tally::of(rt, &text[..n], name, form)?.show(rt, name)
 }

@@ -11,10 +11,12 @@ mod steps;
 mod systems;
 mod tally;
 
-fn main() {
-    numbers::replay();
-    matrices::replay();
-    points::replay();
-    systems::replay();
-    steps::replay();
+use std::io;
+
+fn main(rt: HostRuntime) -> io::Result<()> {
+    numbers::replay(&rt)?;
+    matrices::replay(&rt)?;
+    points::replay(&rt)?;
+    systems::replay(&rt)?;
+    steps::replay(&rt)
 }

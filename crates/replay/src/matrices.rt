@@ -1,17 +1,20 @@
 // The calls of `matrix_calls`.
 use crate::calls::part;
 use crate::{calls, files};
+use std::io;
+use std::rt::Files;
 use vectors::entry;
 
-pub fn replay() {
+pub fn replay(rt: &(impl Files + Print)) -> io::Result<()> {
     files::replay(
+        rt,
         b"damping_diagonal.txt damped_matrix.txt factor_damped.txt factor_new.txt factor_solve.txt reciprocal_condition_number.txt solve_positive_definite.txt",
         &[9, 10, 9, 10, 9, 15, 30],
         &[3, 9, 6, 7, 3, 1, 5],
         calls::MATRICES,
-    );
+    )?;
     // Two good lines, and ten with a fault each, which have to be found.
-    files::replay(b"faulty.txt", &[9], &[3], calls::MATRICES);
+    files::replay(rt, b"faulty.txt", &[9], &[3], calls::MATRICES)
 }
 
 pub fn answer(call: usize, x: &[f64], out: &mut [f64]) -> u64 {

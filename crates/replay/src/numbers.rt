@@ -1,15 +1,18 @@
 // The calls of `number`, `extrema` and `root`.
 use crate::calls::give;
 use crate::{calls, files};
+use std::io;
+use std::rt::Files;
 use vectors::entry;
 
-pub fn replay() {
+pub fn replay(rt: &(impl Files + Print)) -> io::Result<()> {
     files::replay(
+        rt,
         b"sqrt.txt abs.txt recip.txt is_finite.txt max.txt min.txt to_bits.txt from_bits.txt",
         &[1, 1, 1, 1, 2, 2, 1, 1],
         &[1, 1, 1, 1, 1, 1, 1, 1],
         calls::NUMBERS,
-    );
+    )
 }
 
 // The reader has called `from_bits` on each word.

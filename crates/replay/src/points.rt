@@ -1,15 +1,18 @@
 // The calls of `block_calls`.
 use crate::calls::part;
 use crate::{calls, files};
+use std::io;
+use std::rt::Files;
 use vectors::entry;
 
-pub fn replay() {
+pub fn replay(rt: &(impl Files + Print)) -> io::Result<()> {
     files::replay(
+        rt,
         b"pixel_projection.txt linearize_point.txt point_step_with_damping_norm.txt",
         &[10, 37, 65],
         &[8, 59, 4],
         calls::POINTS,
-    );
+    )
 }
 
 pub fn answer(call: usize, x: &[f64], out: &mut [f64]) -> u64 {

@@ -1,15 +1,18 @@
 // The calls of `step_calls`; the whole step has five points.
 use crate::calls::{part, pattern};
 use crate::{calls, files};
+use std::io;
+use std::rt::Files;
 use vectors::entry;
 
-pub fn replay() {
+pub fn replay(rt: &(impl Files + Print)) -> io::Result<()> {
     files::replay(
+        rt,
         b"step.txt limit_pose_step.txt",
         &[70, 5],
         &[28, 5],
         calls::STEPS,
-    );
+    )
 }
 
 pub fn answer(call: usize, x: &[f64], out: &mut [f64]) -> u64 {

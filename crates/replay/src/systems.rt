@@ -1,15 +1,18 @@
 // The calls of `system_calls`. A system is 45 numbers and three counts.
 use crate::calls::{give, part, pattern};
 use crate::{calls, files};
+use std::io;
+use std::rt::Files;
 use vectors::entry;
 
-pub fn replay() {
+pub fn replay(rt: &(impl Files + Print)) -> io::Result<()> {
     files::replay(
+        rt,
         b"system_new.txt system_add.txt system_finish_damping.txt system_is_valid.txt system_scaled_gradient_inf_norm.txt system_predicted_reduction.txt",
         &[48, 108, 49, 48, 48, 55],
         &[48, 48, 48, 1, 1, 1],
         calls::SYSTEMS,
-    );
+    )
 }
 
 pub fn answer(call: usize, x: &[f64], out: &mut [f64]) -> u64 {

@@ -2,6 +2,7 @@
 use crate::calls;
 use crate::calls::MOST;
 use cases::Case;
+use std::io;
 
 // A call by its number, and how many words stand on both sides of `=`
 #[derive(Clone, Copy)]
@@ -20,7 +21,7 @@ pub struct Tally {
 
 impl Tally {
     // Of every line of the text
-    pub fn of(text: &[u8], name: &[u8], form: Form) -> Self {
+    pub fn of(rt: &impl Print, text: &[u8], name: &[u8], form: Form) -> io::Result<Self> {
         let mut tally = Self {
             cases: 0,
             refused: 0,
@@ -29,21 +30,28 @@ impl Tally {
         let mut at = 0;
         while at < text.len() {
             let case = Case::read(text, at);
-            tally = tally.with(name, form, case);
+            tally = tally.with(rt, name, form, case)?;
             at = case.next;
         }
-        tally
+        Ok(tally)
     }
 
     // With one case more
-    fn with(self, name: &[u8], form: Form, case: Case) -> Self {
+    fn with(self, rt: &impl Print, name: &[u8], form: Form, case: Case) -> io::Result<Self> {
         let mut out = [0.0; MOST];
         let outputs = form.outputs % (MOST + 1);
-        self.with_room(name, form, case, &mut out[..outputs])
+        self.with_room(rt, name, form, case, &mut out[..outputs])
     }
 
     // The same, with room for just the outputs. The first three cases that differ are shown.
-    fn with_room(mut self, name: &[u8], form: Form, case: Case, out: &mut [f64]) -> Self {
+    fn with_room(
+        mut self,
+        rt: &impl Print,
+        name: &[u8],
+        form: Form,
+        case: Case,
+        out: &mut [f64],
+    ) -> io::Result<Self> {
         self.cases = std::num::wrapping_add_u64(self.cases, 1);
         if case.refused {
             self.refused = std::num::wrapping_add_u64(self.refused, 1);
@@ -51,28 +59,28 @@ impl Tally {
         let x = case.numbers();
         let code = calls::answer(form.call, &x, out);
         if case.formed && case.split == form.inputs && case.agrees(code, out) {
-            return self;
+            return Ok(self);
         }
         if self.differences < 3 {
-            io::write_all(1, name);
-            io::write_all(1, b" line");
-            show::count(self.cases);
-            io::write_all(1, b" gave");
-            show::count(code);
-            show::patterns(out);
-            show::end();
+            rt.write_all(name)?;
+            rt.write_all(b" line")?;
+            show::count(rt, self.cases)?;
+            rt.write_all(b" gave")?;
+            show::count(rt, code)?;
+            show::patterns(rt, out)?;
+            show::end(rt)?;
         }
         self.differences = std::num::wrapping_add_u64(self.differences, 1);
-        self
+        Ok(self)
     }
 
-    pub fn show(self, name: &[u8]) {
-        io::write_all(1, name);
-        show::count(self.cases);
-        io::write_all(1, b" cases");
-        show::count(self.refused);
-        io::write_all(1, b" refused");
-        show::count(self.differences);
-        io::write_all(1, b" differences\n");
+    pub fn show(self, rt: &impl Print, name: &[u8]) -> io::Result<()> {
+        rt.write_all(name)?;
+        show::count(rt, self.cases)?;
+        rt.write_all(b" cases")?;
+        show::count(rt, self.refused)?;
+        rt.write_all(b" refused")?;
+        show::count(rt, self.differences)?;
+        rt.write_all(b" differences\n")
     }
 }

@@ -1,28 +1,39 @@
 // Lists stored run records: each argument is the name of a file, which is printed, and under it the
 // list of the record in the file. `samples/replay` makes the files, the arguments and what is due.
-
-// The longest name
 #![tactic(auto)]
 
+use std::env::{Env, FillError};
+use std::io;
+use std::rt::Files;
+
+// The longest name
 const NAME: usize = 64;
 
 // Room for one byte more than any file has; the longest is one byte longer than a record may be.
 const ROOM: usize = record::MAX_RECORD + 2;
 
-fn main() {
-    for i in 1..os::arg_count() {
-        replay(i);
+fn main(rt: HostRuntime) -> io::Result<()> {
+    for i in 1..usize::MAX {
+        if !replay(&rt, i)? {
+            break;
+        }
     }
+    Ok(())
 }
 
-// The record that an argument names
-fn replay(argument: usize) {
+// The record that an argument names; false where there is no such argument. Of a name that is too long none is left.
+fn replay(rt: &(impl Env + Files + Print), argument: usize) -> io::Result<bool> {
     let mut text = [0u8; NAME];
-    let length = os::arg(argument, &mut text);
+    let length = match rt.arg(argument, &mut text) {
+        Ok(length) => length,
+        Err(FillError::TooLong) => 0,
+        Err(FillError::NotPresent) => return Ok(false),
+    };
     let name = &text[..length];
-    io::write_all(1, name);
-    io::write_all(1, b"\n");
+    rt.write_all(name)?;
+    rt.write_all(b"\n")?;
     let mut bytes = [0u8; ROOM];
-    let n = stored_file::read(name, &mut bytes);
-    print_list::of(&bytes[..n]);
+    let n = stored_file::read(rt, name, &mut bytes)?;
+    print_list::of(rt, &bytes[..n])?;
+    Ok(true)
 }

@@ -3,50 +3,52 @@
 #![tactic(auto)]
 
 use refusal::Refusal;
+use std::io;
 
 // A line: a figure's name and its value's pattern
-pub fn named(name: &[u8], x: f64) {
-    io::write_all(1, name);
-    pattern(number::to_bits(x));
-    end();
+pub fn named(rt: &impl Print, name: &[u8], x: f64) -> io::Result<()> {
+    rt.write_all(name)?;
+    pattern(rt, number::to_bits(x))?;
+    end(rt)
 }
 
-pub fn text(words: &[u8]) {
-    io::write_all(1, words);
+pub fn text(rt: &impl Print, words: &[u8]) -> io::Result<()> {
+    rt.write_all(words)
 }
 
-pub fn end() {
-    io::write_all(1, b"\n");
+pub fn end(rt: &impl Print) -> io::Result<()> {
+    rt.write_all(b"\n")
 }
 
-pub fn pattern(b: u64) {
-    io::write_all(1, b" ");
+pub fn pattern(rt: &impl Print, b: u64) -> io::Result<()> {
+    rt.write_all(b" ")?;
     let digits = hex_digits::digits(b);
-    io::write_all(1, &digits);
+    rt.write_all(&digits)
 }
 
-pub fn patterns(values: &[f64]) {
+pub fn patterns(rt: &impl Print, values: &[f64]) -> io::Result<()> {
     for i in 0..values.len() {
-        pattern(number::to_bits(values[i]));
+        pattern(rt, number::to_bits(values[i]))?;
     }
+    Ok(())
 }
 
-pub fn count(n: u64) {
-    io::write_all(1, b" ");
-    io::print_decimal(1, n);
+pub fn count(rt: &impl Print, n: u64) -> io::Result<()> {
+    print!(rt; " {n}")
 }
 
 // ` refused`, number, view, index
-pub fn refused(refusal: Refusal) {
-    io::write_all(1, b" refused");
-    count(refusal.number as u64);
-    count(refusal.view as u64);
-    count(refusal.index as u64);
+pub fn refused(rt: &impl Print, refusal: Refusal) -> io::Result<()> {
+    rt.write_all(b" refused")?;
+    count(rt, refusal.number as u64)?;
+    count(rt, refusal.view as u64)?;
+    count(rt, refusal.index as u64)
 }
 
 // The same, where there is one
-pub fn refused_if(refusal: Refusal) {
+pub fn refused_if(rt: &impl Print, refusal: Refusal) -> io::Result<()> {
     if !refusal.is_none() {
-        refused(refusal);
+        refused(rt, refusal)?;
     }
+    Ok(())
 }

@@ -4,6 +4,8 @@
 
 mod steps;
 
-fn main() {
-    steps::print();
+use std::io;
+
+fn main(rt: HostRuntime) -> io::Result<()> {
+    steps::print(&rt)
 }

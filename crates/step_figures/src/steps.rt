@@ -4,6 +4,7 @@ ghost use Rattle.std.specs.Prelude.{◌≡◌, ◌≤◌, length};
 
 use correspondences::Rig;
 use projection::PinholeCamera;
+use std::io;
 use step_result::StepResult;
 use views::Pose;
 
@@ -20,76 +21,76 @@ struct Problem {
     damping: f64,
 }
 
-pub fn print() {
-    limited(b"pose step (1, 0, 0, 0, 0) limited", 1.0);
-    limited(b"pose step (0.5, 0, 0, 0, 0) limited", 0.5);
-    stepped(b"step of a sound problem", sound(), 5, 10);
-    lengths();
-    values();
-    seen();
-    equations();
+pub fn print(rt: &impl Print) -> io::Result<()> {
+    limited(rt, b"pose step (1, 0, 0, 0, 0) limited", 1.0)?;
+    limited(rt, b"pose step (0.5, 0, 0, 0, 0) limited", 0.5)?;
+    stepped(rt, b"step of a sound problem", sound(), 5, 10)?;
+    lengths(rt)?;
+    values(rt)?;
+    seen(rt)?;
+    equations(rt)
 }
 
-fn limited(name: &[u8], x: f64) {
+fn limited(rt: &impl Print, name: &[u8], x: f64) -> io::Result<()> {
     let step = pose_step::limit_pose_step([x, 0.0, 0.0, 0.0, 0.0]);
-    show::text(name);
-    show::patterns(&step);
-    show::end();
+    show::text(rt, name)?;
+    show::patterns(rt, &step)?;
+    show::end(rt)
 }
 
 // Rows 1 and 2
-fn lengths() {
-    stepped(b"step, 9 numbers in view 1", sound(), 5, 9);
-    many(b"step, rows 1 and 2", 131071, 1.0);
-    many(b"step, 65,536 points", 131072, 1.0);
-    many(b"step, rows 2 and 3", 131072, -1.0);
+fn lengths(rt: &impl Print) -> io::Result<()> {
+    stepped(rt, b"step, 9 numbers in view 1", sound(), 5, 9)?;
+    many(rt, b"step, rows 1 and 2", 131071, 1.0)?;
+    many(rt, b"step, 65,536 points", 131072, 1.0)?;
+    many(rt, b"step, rows 2 and 3", 131072, -1.0)
 }
 
 // Rows 3 to 6
-fn values() {
+fn values(rt: &impl Print) -> io::Result<()> {
     let mut p = sound();
     p.damping = -1.0;
-    stepped(b"step, damping -1", p, 5, 10);
+    stepped(rt, b"step, damping -1", p, 5, 10)?;
     p.deviation = 0.0;
-    stepped(b"step, rows 3 and 4", p, 5, 10);
+    stepped(rt, b"step, rows 3 and 4", p, 5, 10)?;
     p.damping = 1.0;
-    stepped(b"step, inverse deviation 0 at index 2", p, 5, 10);
+    stepped(rt, b"step, inverse deviation 0 at index 2", p, 5, 10)?;
     p.baseline = number::EPSILON64;
-    stepped(b"step, rows 4 and 5", p, 5, 10);
+    stepped(rt, b"step, rows 4 and 5", p, 5, 10)?;
     p.deviation = 1.0;
-    stepped(b"step, baseline 2^-46", p, 5, 10);
+    stepped(rt, b"step, baseline 2^-46", p, 5, 10)?;
     p.x = 0.0 / 0.0;
-    stepped(b"step, rows 5 and 6", p, 5, 10);
+    stepped(rt, b"step, rows 5 and 6", p, 5, 10)?;
     p.baseline = 1.0;
-    stepped(b"step, NaN at index 0", p, 5, 10);
-    stepped(b"step, rows 6 and 7", p, 4, 8);
+    stepped(rt, b"step, NaN at index 0", p, 5, 10)?;
+    stepped(rt, b"step, rows 6 and 7", p, 4, 8)
 }
 
 // Rows 7 to 9
-fn seen() {
+fn seen(rt: &impl Print) -> io::Result<()> {
     let mut p = sound();
-    stepped(b"step, 4 points", p, 4, 8);
+    stepped(rt, b"step, 4 points", p, 4, 8)?;
     p.seen = number::from_bits(0x7FF0_0000_0000_0000);
-    stepped(b"step, rows 7 and 8", p, 4, 8);
-    stepped(b"step, infinity in view 2 at index 3", p, 5, 10);
+    stepped(rt, b"step, rows 7 and 8", p, 4, 8)?;
+    stepped(rt, b"step, infinity in view 2 at index 3", p, 5, 10)?;
     p.depth = 0.0;
-    stepped(b"step, rows 8 and 9", p, 5, 10);
+    stepped(rt, b"step, rows 8 and 9", p, 5, 10)?;
     p.seen = 1.0;
-    stepped(b"step, point (0, 0, 0)", p, 5, 10);
+    stepped(rt, b"step, point (0, 0, 0)", p, 5, 10)?;
     p.focal = 0.0;
-    stepped(b"step, rows 9 and 10", p, 5, 10);
+    stepped(rt, b"step, rows 9 and 10", p, 5, 10)
 }
 
 // Rows 10 and 11
-fn equations() {
+fn equations(rt: &impl Print) -> io::Result<()> {
     let mut p = sound();
     p.focal = 0.0;
-    stepped(b"step, blocks of zeros", p, 5, 10);
+    stepped(rt, b"step, blocks of zeros", p, 5, 10)?;
     p.basis = 0.0;
     p.damping = 0.0;
-    stepped(b"step, rows 10 and 11", p, 5, 10);
+    stepped(rt, b"step, rows 10 and 11", p, 5, 10)?;
     p.focal = 1.0;
-    stepped(b"step, basis of zeros at damping 0", p, 5, 10);
+    stepped(rt, b"step, basis of zeros at damping 0", p, 5, 10)
 }
 
 fn sound() -> Problem {
@@ -127,7 +128,7 @@ fn rig(p: Problem) -> Rig {
 }
 
 // The step of the first n points, with so many numbers of view 1
-fn stepped(name: &[u8], p: Problem, n: usize, in_view1: usize)
+fn stepped(rt: &impl Print, name: &[u8], p: Problem, n: usize, in_view1: usize) -> io::Result<()>
     requires { (n ≤ 5) × (in_view1 ≤ 10) }
 {
     let points = [
@@ -146,19 +147,20 @@ fn stepped(name: &[u8], p: Problem, n: usize, in_view1: usize)
         p.damping,
         &mut room[0..3 * n],
     );
-    show_step(name, done);
+    show_step(rt, name, done)
 }
 
 // 65,536 points, and so many numbers in view 1
-fn many(name: &[u8], in_view1: usize, damping: f64)
+fn many(rt: &impl Print, name: &[u8], in_view1: usize, damping: f64) -> io::Result<()>
     requires { in_view1 ≤ 196608 }
 {
     let zeros = [0.0; 196608];
     let mut room = [0.0; 196608];
     show_step(
+        rt,
         name,
         step_of_zeros(&zeros, in_view1, 131072, 65536, damping, &mut room),
-    );
+    )
 }
 
 fn step_of_zeros(
@@ -183,13 +185,13 @@ fn step_of_zeros(
 }
 
 // The refusal, or cost and squared residual
-fn show_step(name: &[u8], done: StepResult) {
-    show::text(name);
-    show::text(b":");
+fn show_step(rt: &impl Print, name: &[u8], done: StepResult) -> io::Result<()> {
+    show::text(rt, name)?;
+    show::text(rt, b":")?;
     let refusal = done.refusal;
     if refusal.is_none() {
-        show::patterns(&[done.cost, done.squared_residual]);
+        show::patterns(rt, &[done.cost, done.squared_residual])?;
     }
-    show::refused_if(refusal);
-    show::end();
+    show::refused_if(rt, refusal)?;
+    show::end(rt)
 }
