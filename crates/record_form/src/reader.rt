@@ -1,5 +1,5 @@
-// A reader that holds a record's bytes and its place in them. The borrow checker covers no function over such a struct,
-// so these are thin, and each is proved by a walk. The last two have plain parameters: their callers need no walk.
+// A reader that holds a record's bytes and its place in them. The functions over it are thin; the last two have plain
+// parameters.
 ghost use Rattle.std.specs.Prelude.{◌≡◌, ◌≤◌};
 ghost use Rattle.record_form.specs.Form as Form;
 ghost use Rattle.record_form.specs.Reads as Reads;

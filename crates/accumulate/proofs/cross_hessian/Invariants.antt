@@ -1,11 +1,9 @@
-use mathlib.Core.Path.{◌≡◌, refl}
+use mathlib.Core.Path.{◌≡◌}
 use mathlib.Core.List.{[], ◌∷◌}
 use Prim.Native.Nat.{◌*◌, ◌-◌, ◌≤◌}
 use lib.ListN.{get_or}
-use native.Mathlib.Omega.{arith}
-use borrow.Author.Rules.{rules}
-use Rattle.number.proofs.Fill.{filled_of, by_rows, array_none, array_full, row_of_three}
-use Rattle.accumulate.specs.Accumulate.{column, product, cross_hessian}
+use Rattle.number.proofs.Fill.{filled_of, by_rows}
+use Rattle.accumulate.specs.Accumulate.{column, product}
 use Rattle.accumulate.proofs.cross_hessian.Given as goal
 
 abbrev pub invariant-loop-i : goal.invariant-loop-i

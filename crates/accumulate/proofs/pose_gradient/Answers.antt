@@ -1,9 +1,7 @@
-use mathlib.Core.Path.{◌≡◌, refl}
-use Prim.Native.Nat.{◌-◌, ◌≤◌}
+use mathlib.Core.Path.{refl}
 use native.Mathlib.Omega.{arith}
-use borrow.Author.Rules.{rules}
-use Rattle.number.proofs.Fill.{filled_of, array_none, array_next, array_full}
-use Rattle.accumulate.specs.Accumulate.{column, product, pose_gradient}
+use Rattle.number.proofs.Fill.{array_none, array_next, array_full}
+use Rattle.accumulate.specs.Accumulate.{pose_gradient}
 use Rattle.accumulate.proofs.pose_gradient.Goals as goal
 
 pub loop-i-init : goal.loop-i-init

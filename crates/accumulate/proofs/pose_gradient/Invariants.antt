@@ -1,9 +1,7 @@
-use mathlib.Core.Path.{◌≡◌, refl}
+use mathlib.Core.Path.{◌≡◌}
 use Prim.Native.Nat.{◌-◌, ◌≤◌}
-use native.Mathlib.Omega.{arith}
-use borrow.Author.Rules.{rules}
-use Rattle.number.proofs.Fill.{filled_of, array_none, array_next, array_full}
-use Rattle.accumulate.specs.Accumulate.{column, product, pose_gradient}
+use Rattle.number.proofs.Fill.{filled_of}
+use Rattle.accumulate.specs.Accumulate.{column, product}
 use Rattle.accumulate.proofs.pose_gradient.Given as goal
 
 abbrev pub invariant-loop-i : goal.invariant-loop-i

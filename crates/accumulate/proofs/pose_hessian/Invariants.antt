@@ -1,9 +1,7 @@
-use mathlib.Core.Path.{◌≡◌, refl}
+use mathlib.Core.Path.{◌≡◌}
 use Prim.Native.Nat.{◌*◌, ◌-◌, ◌≤◌}
-use native.Mathlib.Omega.{arith}
-use borrow.Author.Rules.{rules}
-use Rattle.number.proofs.Fill.{filled_of, by_rows, array_none, array_full, row_of_five}
-use Rattle.accumulate.specs.Accumulate.{column, product, pose_hessian}
+use Rattle.number.proofs.Fill.{filled_of, by_rows}
+use Rattle.accumulate.specs.Accumulate.{column, product}
 use Rattle.accumulate.proofs.pose_hessian.Given as goal
 
 abbrev pub invariant-loop-i : goal.invariant-loop-i

@@ -1,6 +1,5 @@
 use mathlib.Core.Path.{refl, ◌∙◌}
 use Rattle.slices.proofs.Laws.{put_all}
-use borrow.Author.Rules.{rules}
 use Rattle.answers.proofs.store.Goals as goal
 
 pub returns-then-values-out : goal.returns-then-values-out

@@ -1,8 +1,8 @@
+-- `assembly::block_of` meets its contract. Assumes nothing.
 use Rattle.assembly.specs.Assembly.{block_of}
 use borrow.Author.Rules.{rules}
 use Rattle.assembly.proofs.block_of.Goals as goal
 
--- `assembly::block_of` meets its contract. Assumes nothing.
 pub returns : goal.returns
 unfolding block_of
 returns c = c.linearize_point.ensures

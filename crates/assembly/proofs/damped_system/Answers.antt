@@ -12,20 +12,14 @@ pub loop-i-init : goal.loop-i-init
 loop-i-init c = (omega arith, refl, system_none _ _ c.new-system.ensures)
 
 pub overflow_step-i : goal.overflow_step-i
-overflow_step-i c =
-    let l = c in
-    omega (arith, c.loop-i-test, l.loop-i.invariant.1, l.requires)
+overflow_step-i c = omega (arith, c.loop-i-test, c.loop-i.invariant.1, c.requires)
 
 pub loop-i-smaller : goal.loop-i-smaller
 loop-i-smaller c = omega (arith, c.loop-i-test)
 
 pub loop-i-preserved : goal.loop-i-preserved
 loop-i-preserved c =
-    let a = c in
-    let l = a in
-    (omega arith, l.loop-i.invariant.1, system_next _ _ _ _ _ _ l.loop-i.invariant.2 a.correspondence_at-correspondence.ensures a.block_of-local.ensures a.add-added.ensures)
+    (omega arith, c.loop-i.invariant.1, system_next _ _ _ _ _ _ c.loop-i.invariant.2 c.correspondence_at-correspondence.ensures c.block_of-local.ensures c.add-added.ensures)
 
 pub returns : goal.returns
-returns c =
-    let l = c in
-    system_all _ _ _ _ l.loop-i.invariant.2 (omega arith) c.finish_damping-finished.ensures
+returns c = system_all _ _ _ _ c.loop-i.invariant.2 (omega arith) c.finish_damping-finished.ensures

@@ -1,3 +1,4 @@
+-- `assembly::reduced_system` meets its contract. Assumes nothing.
 use Rattle.correspondences.specs.Problem.{problem}
 use Rattle.checks.proofs.Passed.{checked}
 use Rattle.assembly.proofs.Systems.{passed, not_reduced, reduces}
@@ -6,22 +7,17 @@ use mathlib.Core.Path.{ap}
 use mathlib.Core.Bool.{not}
 use Rattle.assembly.proofs.reduced_system.Goals as goal
 
--- `assembly::reduced_system` meets its contract. Assumes nothing.
 pub returns-then-not-is_none : goal.returns-then-not-is_none
 returns-then-not-is_none c =
-    let k = c in
-    let a = k.args in
-    not_reduced (problem a.points.now a.view1.now a.view2.now a.inverse_deviations.now a.rig a.damping) _ k.refused-refusal.ensures _ k.is_none.ensures _ (ap not c.if-not-is_none.true) c.no_system.ensures
+    let a = c.args in
+    not_reduced (problem a.points.now a.view1.now a.view2.now a.inverse_deviations.now a.rig a.damping) _ c.refused-refusal.ensures _ c.is_none.ensures _ (ap not c.if-not-is_none.true) c.no_system.ensures
 
 pub damped_system-system-requires : goal.damped_system-system-requires
 damped_system-system-requires c =
-    let k = c in
-    let a = k.args in
-    (checked (problem a.points.now a.view1.now a.view2.now a.inverse_deviations.now a.rig a.damping) (passed _ _ _ k.refused-refusal.ensures k.is_none.ensures (ap not c.if-not-is_none.false))).0.3
+    let a = c.args in
+    (checked (problem a.points.now a.view1.now a.view2.now a.inverse_deviations.now a.rig a.damping) (passed _ _ _ c.refused-refusal.ensures c.is_none.ensures (ap not c.if-not-is_none.false))).0.3
 
 pub returns : goal.returns
 returns c =
-    let m = c in
-    let k = m in
-    let a = k.args in
-    reduces (problem a.points.now a.view1.now a.view2.now a.inverse_deviations.now a.rig a.damping) _ k.refused-refusal.ensures _ k.is_none.ensures _ (ap not m.if-not-is_none.false) m.damped_system-system.ensures _ c.none.ensures
+    let a = c.args in
+    reduces (problem a.points.now a.view1.now a.view2.now a.inverse_deviations.now a.rig a.damping) _ c.refused-refusal.ensures _ c.is_none.ensures _ (ap not c.if-not-is_none.false) c.damped_system-system.ensures _ c.none.ensures

@@ -19,7 +19,7 @@ returns-then-not-rig-correspondence c = too_short _ _ _ _ _ (ap not c.if-not-rig
 pub returns : goal.returns
 unfolding linearize_point
 returns c =
-    let f = (let it : (length c.args.rig.now ≡ 29) × (length c.args.correspondence.now ≡ 8) × (length c.args.out.now ≡ 59) = three_fit (length c.args.rig.now) (length c.args.correspondence.now) (length c.args.out.now) 29 8 59 (ap not c.if-not-rig-correspondence.false) in it) in
+    let f : (length c.args.rig.now ≡ 29) × (length c.args.correspondence.now ≡ 8) × (length c.args.out.now ≡ 59) = three_fit (length c.args.rig.now) (length c.args.correspondence.now) (length c.args.out.now) 29 8 59 (ap not c.if-not-rig-correspondence.false) in
     let g = c.rig-r in
     let d = c.correspondence in
     let e =

@@ -21,15 +21,10 @@ returns-then-not-camera-observation c = too_short _ _ _ _ _ (ap not c.if-not-cam
 pub returns : goal.returns
 unfolding pixel_projection
 returns c =
-    let call = c in
-    let three = call in
-    let two = three in
-    let test = two in
-    let f = (let it : (length test.args.camera.now ≡ 5) × (length test.args.observation.now ≡ 2) × (length test.args.point.now ≡ 3) × (length test.args.out.now ≡ 8) = four_fit (length test.args.camera.now) (length test.args.observation.now) (length test.args.point.now) (length test.args.out.now) 5 2 3 8 (ap not test.if-not-camera-observation.false) in it) in
-    let start = test in
+    let f : (length c.args.camera.now ≡ 5) × (length c.args.observation.now ≡ 2) × (length c.args.point.now ≡ 3) × (length c.args.out.now ≡ 8) = four_fit (length c.args.camera.now) (length c.args.observation.now) (length c.args.point.now) (length c.args.out.now) 5 2 3 8 (ap not c.if-not-camera-observation.false) in
     let e =
-    call.pixel_projection-p.ensures
-    ∙ ap (λ (x : PinholeCamera). Projection.pixel_projection x two.vector2.result three.vector3.result) (whole_camera start.args.camera.now _ f.0 two.camera.ensures)
-    ∙ ap (λ (l : List Float). Projection.pixel_projection (camera start.args.camera.now) l three.vector3.result) (whole start.args.observation.now 2 _ f.1 two.vector2.ensures)
-    ∙ ap (λ (l : List Float). Projection.pixel_projection (camera start.args.camera.now) start.args.observation.now l) (whole start.args.point.now 3 _ f.2 three.vector3.ensures) in
-    answers _ _ _ _ _ _ _ _ (ap not test.if-not-camera-observation.false) (ap (λ (d : Projected). d.refusal) e) (c.projection_numbers-values.ensures ∙ ap (λ (p : Projected). projection_numbers p) e) ((let it : length c.projection_numbers-values.result ≡ 8 = search rules in it) ∙ sym f.3) c.answer.ensures
+    c.pixel_projection-p.ensures
+    ∙ ap (λ (x : PinholeCamera). Projection.pixel_projection x c.vector2.result c.vector3.result) (whole_camera c.args.camera.now _ f.0 c.camera.ensures)
+    ∙ ap (λ (l : List Float). Projection.pixel_projection (camera c.args.camera.now) l c.vector3.result) (whole c.args.observation.now 2 _ f.1 c.vector2.ensures)
+    ∙ ap (λ (l : List Float). Projection.pixel_projection (camera c.args.camera.now) c.args.observation.now l) (whole c.args.point.now 3 _ f.2 c.vector3.ensures) in
+    answers _ _ _ _ _ _ _ _ (ap not c.if-not-camera-observation.false) (ap (λ (d : Projected). d.refusal) e) (c.projection_numbers-values.ensures ∙ ap (λ (p : Projected). projection_numbers p) e) ((let it : length c.projection_numbers-values.result ≡ 8 = search rules in it) ∙ sym f.3) c.answer.ensures

@@ -20,10 +20,9 @@ returns-then-not-block-pose_step c = too_short _ _ _ _ _ (ap not c.if-not-block-
 pub returns : goal.returns
 unfolding point_step
 returns c =
-    let f = (let it : (length c.args.block.now ≡ 59) × (length c.args.pose_step.now ≡ 5) × (length c.args.out.now ≡ 4) = three_fit (length c.args.block.now) (length c.args.pose_step.now) (length c.args.out.now) 59 5 4 (ap not c.if-not-block-pose_step.false) in it) in
-    let start = c in
+    let f : (length c.args.block.now ≡ 59) × (length c.args.pose_step.now ≡ 5) × (length c.args.out.now ≡ 4) = three_fit (length c.args.block.now) (length c.args.pose_step.now) (length c.args.out.now) 59 5 4 (ap not c.if-not-block-pose_step.false) in
     let e =
     c.point_step_with_damping_norm-p.ensures
-    ∙ ap (λ (b : LocalLinearization). PointStep.point_step b start.args.damping c.vector5.result) c.block-b.ensures
-    ∙ ap (λ (l : List Float). PointStep.point_step (block start.args.block.now) start.args.damping l) (whole _ 5 _ f.1 c.vector5.ensures) in
+    ∙ ap (λ (b : LocalLinearization). PointStep.point_step b c.args.damping c.vector5.result) c.block-b.ensures
+    ∙ ap (λ (l : List Float). PointStep.point_step (block c.args.block.now) c.args.damping l) (whole _ 5 _ f.1 c.vector5.ensures) in
     answers _ _ _ _ _ _ _ _ (ap not c.if-not-block-pose_step.false) (ap (λ (p : Stepped.PointStep). p.refusal) e) (c.point_step_numbers-values.ensures ∙ ap (λ (p : Stepped.PointStep). point_step_numbers p) e) ((let it : length c.point_step_numbers-values.result ≡ 4 = search rules in it) ∙ sym f.2) c.answer.ensures

@@ -1,10 +1,8 @@
+-- `cholesky::scale_of` meets its contract. Assumes nothing.
 use mathlib.Core.Path.{refl}
 use Rattle.cholesky.specs.Cholesky.{scale_of}
-use native.Mathlib.Omega.{arith}
-use borrow.Author.Rules.{rules}
 use Rattle.cholesky.proofs.scale_of.Goals as goal
 
--- `cholesky::scale_of` meets its contract. Assumes nothing.
 pub returns : goal.returns
 unfolding scale_of
 returns c = rw (c.sqrt-3.ensures, c.sqrt-2.ensures, c.sqrt.ensures) refl

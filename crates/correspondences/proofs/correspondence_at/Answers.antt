@@ -1,9 +1,7 @@
+-- `correspondences::correspondence_at` meets its contract. Assumes nothing.
 use mathlib.Core.Path.{refl}
-use borrow.Author.Rules.{rules}
 use Rattle.correspondences.proofs.correspondence_at.Goals as goal
 
--- `correspondences::correspondence_at` meets its contract. Assumes nothing.
 pub returns : goal.returns
 returns c =
-    let v = c in
-    rw (c.entry.ensures, v.pair_at-2.ensures, v.pair_at.ensures, v.point_at.ensures) refl
+    rw (c.entry.ensures, c.pair_at-2.ensures, c.pair_at.ensures, c.point_at.ensures) refl

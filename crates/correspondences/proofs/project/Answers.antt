@@ -1,10 +1,9 @@
+-- `correspondences::project` meets its contract. Assumes nothing.
 use Rattle.correspondences.specs.Problem.{project}
 use borrow.Author.Tests.{eq-eqb, ne_eqb}
 use mathlib.Core.Path.{refl}
-use borrow.Author.Rules.{rules}
 use Rattle.correspondences.proofs.project.Goals as goal
 
--- `correspondences::project` meets its contract. Assumes nothing.
 pub returns-then-view-eq1 : goal.returns-then-view-eq1
 unfolding project
 returns-then-view-eq1 c = rw (eq-eqb _ _ c.if-view-eq1.true) c.pixel_projection.ensures

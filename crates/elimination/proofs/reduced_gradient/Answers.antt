@@ -1,11 +1,7 @@
-use mathlib.Core.Path.{◌≡◌, refl}
-use Prim.Native.Nat.{◌-◌, ◌≤◌}
+use mathlib.Core.Path.{refl}
 use native.Mathlib.Omega.{arith}
-use borrow.Author.Rules.{rules}
-use Rattle.number.proofs.Fill.{filled_of, array_none, array_next, array_full}
-use Rattle.number.specs.Binary64.{◌⊕◌, ◌⊖◌}
-use Rattle.number.specs.Vectors.{◌!◌}
-use Rattle.elimination.specs.Elimination.{dot3, cross_row, reduced_gradient}
+use Rattle.number.proofs.Fill.{array_none, array_next, array_full}
+use Rattle.elimination.specs.Elimination.{reduced_gradient}
 use Rattle.elimination.proofs.reduced_gradient.Goals as goal
 
 pub loop-i-init : goal.loop-i-init

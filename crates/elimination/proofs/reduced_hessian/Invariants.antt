@@ -1,11 +1,8 @@
-use mathlib.Core.Path.{◌≡◌, refl}
+use mathlib.Core.Path.{◌≡◌}
 use Prim.Native.Nat.{◌-◌, ◌≤◌}
-use native.Mathlib.Omega.{arith}
-use borrow.Author.Rules.{rules}
-use Rattle.number.proofs.Fill.{filled_of, array_none, array_next, array_full}
+use Rattle.number.proofs.Fill.{filled_of}
 use Rattle.number.specs.Binary64.{◌⊕◌, ◌⊖◌}
 use Rattle.number.specs.Vectors.{◌!◌}
-use Rattle.elimination.specs.Elimination.{reduced_hessian}
 use Rattle.elimination.proofs.reduced_hessian.Given as goal
 
 abbrev pub invariant-loop-k : goal.invariant-loop-k

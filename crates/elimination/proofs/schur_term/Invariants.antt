@@ -1,12 +1,9 @@
-use mathlib.Core.Path.{◌≡◌, refl, ◌∙◌}
+use mathlib.Core.Path.{◌≡◌}
 use mathlib.Core.List.{[], ◌∷◌}
 use Prim.Native.Nat.{◌*◌, ◌-◌, ◌≤◌}
 use lib.ListN.{get_or}
-use native.Mathlib.Omega.{arith}
-use borrow.Author.Rules.{rules}
-use Rattle.number.proofs.Fill.{filled_of, by_rows, array_none, array_full, row_of_five}
+use Rattle.number.proofs.Fill.{filled_of, by_rows}
 use Rattle.elimination.specs.Elimination.{dot3, cross_row}
-use Rattle.elimination.proofs.Rows.{solved, term_is}
 use Rattle.elimination.proofs.schur_term.Given as goal
 
 abbrev pub invariant-loop-i : goal.invariant-loop-i

@@ -1,3 +1,4 @@
+-- `fields::byte_at` meets its contract. Assumes nothing.
 use mathlib.Core.Path.{refl, sym}
 use Prim.Native.Nat.{◌≤◌}
 use lib.ListN.{length, get_or-eq_default}
@@ -7,7 +8,6 @@ use Rattle.fields.proofs.byte_at.Goals as goal
 pub overflow_cast-result : goal.overflow_cast-result
 overflow_cast-result c = omega (arith, c.shared_slice_known-1.given c.args.at)
 
--- `fields::byte_at` meets its contract. Assumes nothing.
 pub returns-then-at-record : goal.returns-then-at-record
 returns-then-at-record c = (refl, omega (arith, c.shared_slice_known-1.given c.args.at))
 

@@ -1,11 +1,10 @@
+-- `flat::block` meets its contract. Assumes nothing.
 use mathlib.Core.Path.{refl}
 use Rattle.flat.specs.Flat.{block}
 use borrow.Author.Rules.{rules}
 use Rattle.flat.proofs.block.Goals as goal
 
--- `flat::block` meets its contract. Assumes nothing.
 pub returns : goal.returns
 unfolding block
 returns c =
-    let d = c in
-    rw (d.vector25.ensures, d.vector15.ensures, d.vector9.ensures, d.vector5.ensures, d.vector3.ensures, c.entry.ensures, c.entry-2.ensures, c.none.ensures) refl
+    rw (c.vector25.ensures, c.vector15.ensures, c.vector9.ensures, c.vector5.ensures, c.vector3.ensures, c.entry.ensures, c.entry-2.ensures, c.none.ensures) refl

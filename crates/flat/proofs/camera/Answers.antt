@@ -1,3 +1,4 @@
+-- `flat::camera` meets its contract. Assumes nothing.
 use mathlib.Core.Path.{ap}
 use mathlib.Core.List.{List}
 use lib.Ieee.{Float}
@@ -5,6 +6,5 @@ use Rattle.flat.specs.Flat.{camera}
 use borrow.Author.Rules.{rules}
 use Rattle.flat.proofs.camera.Goals as goal
 
--- `flat::camera` meets its contract. Assumes nothing.
 pub returns : goal.returns
 returns c = ap (λ (l : List Float). camera l) c.vector5-numbers.ensures

@@ -9,7 +9,7 @@ use Rattle.flat_numbers.proofs.block_numbers.Goals as goal
 pub returns : goal.returns
 unfolding block_numbers
 returns c =
-    let s = (let it : (length c.args.b.pose_hessian ≡ 25) × (length c.args.b.cross_hessian ≡ 15) × (length c.args.b.point_hessian ≡ 9) × (length c.args.b.pose_gradient ≡ 5) × (length c.args.b.point_gradient ≡ 3) = (search rules, search rules, search rules, search rules, search rules) in it) in
+    let s : (length c.args.b.pose_hessian ≡ 25) × (length c.args.b.cross_hessian ≡ 15) × (length c.args.b.point_hessian ≡ 9) × (length c.args.b.pose_gradient ≡ 5) × (length c.args.b.point_gradient ≡ 3) = (search rules, search rules, search rules, search rules, search rules) in
     let e1 = put_next _ _ _ _ _ _ _ 25 (put_none _ _ refl) s.0 (omega arith) c.copy.ensures in
     let e2 = put_next _ _ _ _ _ _ _ 15 e1 s.1 (omega arith) c.copy-2.ensures in
     let e3 = put_next _ _ _ _ _ _ _ 9 e2 s.2 (omega arith) c.copy-3.ensures in

@@ -9,7 +9,7 @@ use Rattle.flat_numbers.proofs.system_numbers.Goals as goal
 pub returns : goal.returns
 unfolding system_numbers
 returns c =
-    let s = (let it : (length c.args.s.«hessian» ≡ 25) × (length c.args.s.«gradient» ≡ 5) × (length c.args.s.full_pose_gradient ≡ 5) × (length c.args.s.pose_diagonal ≡ 5) = (search rules, search rules, search rules, search rules) in it) in
+    let s : (length c.args.s.«hessian» ≡ 25) × (length c.args.s.«gradient» ≡ 5) × (length c.args.s.full_pose_gradient ≡ 5) × (length c.args.s.pose_diagonal ≡ 5) = (search rules, search rules, search rules, search rules) in
     let e1 = put_next _ _ _ _ _ _ _ 25 (put_none _ _ refl) s.0 (omega arith) c.copy.ensures in
     let e2 = put_next _ _ _ _ _ _ _ 5 e1 s.1 (omega arith) c.copy-2.ensures in
     let e3 = put_next _ _ _ _ _ _ _ 2 e2 refl (omega arith) c.copy-3.ensures in

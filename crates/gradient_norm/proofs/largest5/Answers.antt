@@ -1,8 +1,6 @@
+-- `gradient_norm::largest5` meets its contract. Assumes nothing.
 use mathlib.Core.Path.{refl}
-use native.Mathlib.Omega.{arith}
-use borrow.Author.Rules.{rules}
 use Rattle.gradient_norm.proofs.largest5.Goals as goal
 
--- `gradient_norm::largest5` meets its contract. Assumes nothing.
 pub returns : goal.returns
 returns c = rw (c.max-2.ensures, c.max.ensures, c.largest3.ensures) refl

@@ -1,16 +1,13 @@
+-- `gradient_norm::norm3` meets its contract. Assumes nothing.
 use mathlib.Core.Path.{refl}
 use Rattle.gradient_norm.proofs.Norms.{floor_clear, three_zeros, norm_unscaled, norm_scaled}
-use native.Mathlib.Omega.{arith}
-use borrow.Author.Rules.{rules}
 use mathlib.Core.Path.{ap}
 use mathlib.Core.Bool.{not}
 use Rattle.gradient_norm.proofs.norm3.Goals as goal
 
--- `gradient_norm::norm3` meets its contract. Assumes nothing.
 pub returns-then-not-positive_finite : goal.returns-then-not-positive_finite
 returns-then-not-positive_finite c =
-    let b = c in
-    norm_unscaled 3 _ _ _ b.largest3-scale.ensures _ b.positive_finite.ensures _ _ (ap not c.if-not-positive_finite.true) (three_zeros b.args.g) c.unscaled.ensures
+    norm_unscaled 3 _ _ _ c.largest3-scale.ensures _ c.positive_finite.ensures _ _ (ap not c.if-not-positive_finite.true) (three_zeros c.args.g) c.unscaled.ensures
 
 pub scaled-requires : goal.scaled-requires
 scaled-requires c = floor_clear 3 c.args.d _ c.largest3-scale.ensures
@@ -23,8 +20,4 @@ scaled-requires-3 c = floor_clear 3 c.args.d _ c.largest3-scale.ensures
 
 pub returns : goal.returns
 returns c =
-    let z = c in
-    let y = z in
-    let x = y in
-    let b = x in
-    norm_scaled 3 _ _ _ b.largest3-scale.ensures _ b.positive_finite.ensures _ (ap not x.if-not-positive_finite.false) (rw (c.largest3.ensures, x.scaled.ensures, y.scaled-2.ensures, z.scaled-3.ensures) refl)
+    norm_scaled 3 _ _ _ c.largest3-scale.ensures _ c.positive_finite.ensures _ (ap not c.if-not-positive_finite.false) (rw (c.largest3.ensures, c.scaled.ensures, c.scaled-2.ensures, c.scaled-3.ensures) refl)

@@ -1,16 +1,13 @@
+-- `gradient_norm::norm5` meets its contract. Assumes nothing.
 use mathlib.Core.Path.{refl}
 use Rattle.gradient_norm.proofs.Norms.{floor_clear, five_zeros, norm_unscaled, norm_scaled}
-use native.Mathlib.Omega.{arith}
-use borrow.Author.Rules.{rules}
 use mathlib.Core.Path.{ap}
 use mathlib.Core.Bool.{not}
 use Rattle.gradient_norm.proofs.norm5.Goals as goal
 
--- `gradient_norm::norm5` meets its contract. Assumes nothing.
 pub returns-then-not-positive_finite : goal.returns-then-not-positive_finite
 returns-then-not-positive_finite c =
-    let b = c in
-    norm_unscaled 5 _ _ _ b.largest5-scale.ensures _ b.positive_finite.ensures _ _ (ap not c.if-not-positive_finite.true) (five_zeros b.args.g) c.unscaled.ensures
+    norm_unscaled 5 _ _ _ c.largest5-scale.ensures _ c.positive_finite.ensures _ _ (ap not c.if-not-positive_finite.true) (five_zeros c.args.g) c.unscaled.ensures
 
 pub scaled-requires : goal.scaled-requires
 scaled-requires c = floor_clear 5 c.args.d _ c.largest5-scale.ensures
@@ -29,10 +26,4 @@ scaled-requires-5 c = floor_clear 5 c.args.d _ c.largest5-scale.ensures
 
 pub returns : goal.returns
 returns c =
-    let z = c in
-    let y = z in
-    let x = y in
-    let w = x in
-    let v = w in
-    let b = v in
-    norm_scaled 5 _ _ _ b.largest5-scale.ensures _ b.positive_finite.ensures _ (ap not v.if-not-positive_finite.false) (rw (c.largest5.ensures, v.scaled.ensures, w.scaled-2.ensures, x.scaled-3.ensures, y.scaled-4.ensures, z.scaled-5.ensures) refl)
+    norm_scaled 5 _ _ _ c.largest5-scale.ensures _ c.positive_finite.ensures _ (ap not c.if-not-positive_finite.false) (rw (c.largest5.ensures, c.scaled.ensures, c.scaled-2.ensures, c.scaled-3.ensures, c.scaled-4.ensures, c.scaled-5.ensures) refl)

@@ -1,9 +1,7 @@
+-- `gradient_norm::point_gradient_norm` meets its contract. Assumes nothing.
 use Rattle.gradient_norm.specs.GradientNorm.{point_gradient_norm}
-use native.Mathlib.Omega.{arith}
-use borrow.Author.Rules.{rules}
 use Rattle.gradient_norm.proofs.point_gradient_norm.Goals as goal
 
--- `gradient_norm::point_gradient_norm` meets its contract. Assumes nothing.
 pub returns : goal.returns
 unfolding point_gradient_norm
 returns c = c.norm3.ensures

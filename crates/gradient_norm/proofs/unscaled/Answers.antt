@@ -1,9 +1,9 @@
+-- `gradient_norm::unscaled` meets its contract. Assumes nothing.
 use mathlib.Core.Path.{refl}
 use lib.Ieee.{div, of_bits}
 use Rattle.gradient_norm.specs.GradientNorm.{unscaled}
 use Rattle.gradient_norm.proofs.unscaled.Goals as goal
 
--- `gradient_norm::unscaled` meets its contract. Assumes nothing.
 pub returns-then-all_zero : goal.returns-then-all_zero
 unfolding unscaled
 returns-then-all_zero c = rw c.if-all_zero.true refl

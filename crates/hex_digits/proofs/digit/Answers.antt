@@ -1,9 +1,8 @@
-use borrow.Author.Rules.{rules}
+-- `hex_digits::digit` meets its contract. Assumes nothing.
 use borrow.Author.Tests.{lt-ltb, le-ltb}
 use Rattle.hex_digits.specs.Hex.{digit}
 use Rattle.hex_digits.proofs.digit.Goals as goal
 
--- `hex_digits::digit` meets its contract. Assumes nothing.
 pub returns-then-d-lt10 : goal.returns-then-d-lt10
 unfolding digit
 returns-then-d-lt10 c = simp (lt-ltb _ _ c.if-d-lt10.true)

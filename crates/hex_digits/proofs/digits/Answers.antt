@@ -1,6 +1,5 @@
-use borrow.Author.Rules.{rules}
+-- `hex_digits::digits` meets its contract. Assumes nothing.
 use Rattle.hex_digits.proofs.digits.Goals as goal
 
--- `hex_digits::digits` meets its contract. Assumes nothing.
 pub returns : goal.returns
 returns c = cc

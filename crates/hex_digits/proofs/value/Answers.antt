@@ -1,12 +1,11 @@
+-- `hex_digits::value` meets its contract. Assumes nothing.
 use mathlib.Core.Path.{◌≡◌}
 use Prim.Native.Nat.{ℕ, ◌+◌, ◌-◌, ◌≤◌, ◌<◌}
 use native.Mathlib.Omega.{arith}
-use borrow.Author.Rules.{rules}
 use borrow.Author.Tests.{lt-ltb, le-ltb, le-leb, lt-leb}
 use Rattle.hex_digits.specs.Hex.{value}
 use Rattle.hex_digits.proofs.value.Goals as goal
 
--- `hex_digits::value` meets its contract. Assumes nothing.
 before : (b : ℕ) → b < 48 → 0 ≡ value b
 unfolding value
 before b h = simp (lt-ltb b 48 h)

@@ -1,9 +1,6 @@
-use mathlib.Core.Path.{◌≡◌, refl}
-use Prim.Native.Nat.{◌/◌, ◌%◌, ◌-◌, ◌≤◌}
+use mathlib.Core.Path.{refl}
 use native.Mathlib.Omega.{arith}
-use Rattle.number.proofs.Fill.{filled_of, array_none, array_next, array_full}
-use Rattle.number.specs.Binary64.{◌⊗◌}
-use Rattle.jacobians.specs.Jacobians.{entry}
+use Rattle.number.proofs.Fill.{array_none, array_next, array_full}
 use Rattle.jacobians.proofs.point_jacobian.Goals as goal
 
 pub loop-k-init : goal.loop-k-init

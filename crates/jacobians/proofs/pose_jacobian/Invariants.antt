@@ -1,7 +1,6 @@
-use mathlib.Core.Path.{◌≡◌, refl}
+use mathlib.Core.Path.{◌≡◌}
 use Prim.Native.Nat.{◌/◌, ◌%◌, ◌-◌, ◌≤◌}
-use native.Mathlib.Omega.{arith}
-use Rattle.number.proofs.Fill.{filled_of, array_none, array_next, array_full}
+use Rattle.number.proofs.Fill.{filled_of}
 use Rattle.jacobians.specs.Jacobians.{entry}
 use Rattle.jacobians.proofs.pose_jacobian.Given as goal
 

@@ -1,3 +1,4 @@
+-- `letters::letter` meets its contract. Assumes nothing.
 use Rattle.letters.specs.Letters.{letter}
 use Rattle.number.specs.Binary64.{zero, epsilon192}
 use Rattle.refusal.specs.Refused.{is_none}
@@ -13,7 +14,6 @@ use mathlib.Core.Path.{ap}
 use mathlib.Core.Bool.{not}
 use Rattle.letters.proofs.letter.Goals as goal
 
--- `letters::letter` meets its contract. Assumes nothing.
 -- the letter, by the three tests
 tested : (b : LocalLinearization) (damping : Float) (f : LoneFactor) (factors at_zero weak : Bool) → f ≡ lone_factor b.point_hessian damping
     → is_none f.refusal ≡ factors → eq damping zero ≡ at_zero → le f.rcond epsilon192 ≡ weak
@@ -22,23 +22,15 @@ unfolding letter
 tested b damping f factors at_zero weak e n z w = rw (← e, n, z, w)
 
 pub returns-then-not-is_none : goal.returns-then-not-is_none
-returns-then-not-is_none c =
-    let n = c in
-    tested _ _ _ _ _ _ n.new-factor.ensures (sym n.is_none.ensures ∙ not-true _ (ap not c.if-not-is_none.true)) refl refl
+returns-then-not-is_none c = tested _ _ _ _ _ _ c.new-factor.ensures (sym c.is_none.ensures ∙ not-true _ (ap not c.if-not-is_none.true)) refl refl
 
 pub returns-then-factor : goal.returns-then-factor
 returns-then-factor c =
-    let z = c in
-    let n = z in
-    tested _ _ _ _ _ _ n.new-factor.ensures (sym n.is_none.ensures ∙ not-false _ (ap not z.if-not-is_none.false)) z.if-damping.true c.if-factor.true
+    tested _ _ _ _ _ _ c.new-factor.ensures (sym c.is_none.ensures ∙ not-false _ (ap not c.if-not-is_none.false)) c.if-damping.true c.if-factor.true
 
 pub returns-then-damping : goal.returns-then-damping
 returns-then-damping c =
-    let z = c in
-    let n = z in
-    tested _ _ _ _ _ _ n.new-factor.ensures (sym n.is_none.ensures ∙ not-false _ (ap not z.if-not-is_none.false)) z.if-damping.true c.if-factor.false
+    tested _ _ _ _ _ _ c.new-factor.ensures (sym c.is_none.ensures ∙ not-false _ (ap not c.if-not-is_none.false)) c.if-damping.true c.if-factor.false
 
 pub returns : goal.returns
-returns c =
-    let n = c in
-    tested _ _ _ _ _ _ n.new-factor.ensures (sym n.is_none.ensures ∙ not-false _ (ap not c.if-not-is_none.false)) c.if-damping.false refl
+returns c = tested _ _ _ _ _ _ c.new-factor.ensures (sym c.is_none.ensures ∙ not-false _ (ap not c.if-not-is_none.false)) c.if-damping.false refl

@@ -1,7 +1,5 @@
 use Rattle.text.proofs.Puts.{put_put}
 use Rattle.lines.specs.Lines.{run_line}
-use native.Mathlib.Omega.{arith}
-use borrow.Author.Rules.{rules}
 use Rattle.lines.proofs.put_run.Goals as goal
 
 pub returns : goal.returns

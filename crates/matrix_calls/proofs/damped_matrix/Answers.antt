@@ -1,3 +1,4 @@
+-- `matrix_calls::damped_matrix` meets its contract. Assumes nothing.
 use mathlib.Core.Path.{◌≡◌, refl, sym, ap, ◌∙◌}
 use mathlib.Core.Bool.{Bool, true, false, not, cond}
 use mathlib.Core.List.{List}
@@ -17,14 +18,13 @@ use Rattle.answers.proofs.Laws.{too_short, answers, two_fit}
 use borrow.Author.Rules.{rules}
 use Rattle.matrix_calls.proofs.damped_matrix.Goals as goal
 
--- `matrix_calls::damped_matrix` meets its contract. Assumes nothing.
 -- the damping that was tested, by the test's answer
 module _ (tested good : Bool) (e : tested ≡ good) (refusal : Refusal) where
   -- row 3, and `out` stays as it was
-  row-3 : (fits : Bool) (r : Refusal) (values out : List Float) (number : ℕ) → not fits ≡ false → not tested ≡ true → r ≡ of Rows.damping → number ≡ code r
+  row_3 : (fits : Bool) (r : Refusal) (values out : List Float) (number : ℕ) → not fits ≡ false → not tested ≡ true → r ≡ of Rows.damping → number ≡ code r
       → Answered number out (answer fits (cond good refusal (of Rows.damping)) values out)
   unfolding answer stored is_none
-  row-3 fits r values out number f t p q = rw (not-false fits f, ← e, not-true tested t) (record { same_number = q ∙ ap code p; same_out = refl })
+  row_3 fits r values out number f t p q = rw (not-false fits f, ← e, not-true tested t) (record { same_number = q ∙ ap code p; same_out = refl })
 
   passed : (r : Refusal) → not tested ≡ false → r ≡ refusal → r ≡ cond good refusal (of Rows.damping)
   passed r t p = rw (← e, not-false tested t) p
@@ -36,15 +36,11 @@ returns-then-not-matrix-out c = too_short _ _ _ _ _ (ap not c.if-not-matrix-out.
 pub returns-then-not-good_damping : goal.returns-then-not-good_damping
 unfolding damped_matrix
 returns-then-not-good_damping c =
-    let tested = c in
-    row-3 _ _ tested.good_damping.ensures _ _ _ _ _ _ (ap not tested.if-not-matrix-out.false) (ap not tested.if-not-good_damping.true) c.of.ensures c.code.ensures
+    row_3 _ _ c.good_damping.ensures _ _ _ _ _ _ (ap not c.if-not-matrix-out.false) (ap not c.if-not-good_damping.true) c.of.ensures c.code.ensures
 
 pub returns : goal.returns
 unfolding damped_matrix
 returns c =
-    let f = (let it : (length c.args.matrix.now ≡ 9) × (length c.args.out.now ≡ 9) = two_fit (length c.args.matrix.now) (length c.args.out.now) 9 9 (ap not c.if-not-matrix-out.false) in it) in
-    let a = c in
-    let tested = a in
-    let start = tested in
-    let e = a.damped_matrix-d.ensures ∙ ap (λ (m : List Float). Damping.damped_matrix m start.args.damping) (whole _ 9 _ f.0 a.vector9.ensures) in
-    answers _ _ _ _ _ _ _ _ (ap not tested.if-not-matrix-out.false) (passed _ _ tested.good_damping.ensures _ _ (ap not tested.if-not-good_damping.false) (ap (λ (d : DampedMatrix). d.refusal) e)) (ap (λ (d : DampedMatrix). d.matrix) e) ((let it : length a.damped_matrix-d.result.matrix ≡ 9 = search rules in it) ∙ sym f.1) a.answer.ensures
+    let f : (length c.args.matrix.now ≡ 9) × (length c.args.out.now ≡ 9) = two_fit (length c.args.matrix.now) (length c.args.out.now) 9 9 (ap not c.if-not-matrix-out.false) in
+    let e = c.damped_matrix-d.ensures ∙ ap (λ (m : List Float). Damping.damped_matrix m c.args.damping) (whole _ 9 _ f.0 c.vector9.ensures) in
+    answers _ _ _ _ _ _ _ _ (ap not c.if-not-matrix-out.false) (passed _ _ c.good_damping.ensures _ _ (ap not c.if-not-good_damping.false) (ap (λ (d : DampedMatrix). d.refusal) e)) (ap (λ (d : DampedMatrix). d.matrix) e) ((let it : length c.damped_matrix-d.result.matrix ≡ 9 = search rules in it) ∙ sym f.1) c.answer.ensures

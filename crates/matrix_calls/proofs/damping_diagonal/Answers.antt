@@ -18,8 +18,6 @@ returns-then-not-matrix-out c = too_short _ _ _ _ _ (ap not c.if-not-matrix-out.
 pub returns : goal.returns
 unfolding damping_diagonal
 returns c =
-    let f = (let it : (length c.args.matrix.now ≡ 9) × (length c.args.out.now ≡ 3) = two_fit (length c.args.matrix.now) (length c.args.out.now) 9 3 (ap not c.if-not-matrix-out.false) in it) in
-    let a = c in
-    let start = a in
-    let e = a.damping_diagonal-d.ensures ∙ ap (λ (m : List Float). Damping.damping_diagonal m) (whole _ 9 _ f.0 a.vector9.ensures) in
-    answers _ _ _ _ _ _ _ _ (ap not a.if-not-matrix-out.false) (ap (λ (d : DampingDiagonal). d.refusal) e) (ap (λ (d : DampingDiagonal). d.values) e) ((let it : length a.damping_diagonal-d.result.values ≡ 3 = search rules in it) ∙ sym f.1) a.answer.ensures
+    let f : (length c.args.matrix.now ≡ 9) × (length c.args.out.now ≡ 3) = two_fit (length c.args.matrix.now) (length c.args.out.now) 9 3 (ap not c.if-not-matrix-out.false) in
+    let e = c.damping_diagonal-d.ensures ∙ ap (λ (m : List Float). Damping.damping_diagonal m) (whole _ 9 _ f.0 c.vector9.ensures) in
+    answers _ _ _ _ _ _ _ _ (ap not c.if-not-matrix-out.false) (ap (λ (d : DampingDiagonal). d.refusal) e) (ap (λ (d : DampingDiagonal). d.values) e) ((let it : length c.damping_diagonal-d.result.values ≡ 3 = search rules in it) ∙ sym f.1) c.answer.ensures

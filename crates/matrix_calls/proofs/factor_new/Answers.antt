@@ -18,8 +18,6 @@ returns-then-not-matrix-out c = too_short _ _ _ _ _ (ap not c.if-not-matrix-out.
 pub returns : goal.returns
 unfolding lone_factor
 returns c =
-    let f = (let it : (length c.args.matrix.now ≡ 9) × (length c.args.out.now ≡ 7) = two_fit (length c.args.matrix.now) (length c.args.out.now) 9 7 (ap not c.if-not-matrix-out.false) in it) in
-    let a = c in
-    let start = a in
-    let e = a.new-f.ensures ∙ ap (λ (m : List Float). Lone.lone_factor m start.args.damping) (whole _ 9 _ f.0 a.vector9.ensures) in
-    answers _ _ _ _ _ _ _ _ (ap not a.if-not-matrix-out.false) (ap (λ (d : LoneFactor). d.refusal) e) (c.factor_numbers-values.ensures ∙ ap (λ (p : LoneFactor). factor_numbers p) e) ((let it : length c.factor_numbers-values.result ≡ 7 = search rules in it) ∙ sym f.1) a.answer.ensures
+    let f : (length c.args.matrix.now ≡ 9) × (length c.args.out.now ≡ 7) = two_fit (length c.args.matrix.now) (length c.args.out.now) 9 7 (ap not c.if-not-matrix-out.false) in
+    let e = c.new-f.ensures ∙ ap (λ (m : List Float). Lone.lone_factor m c.args.damping) (whole _ 9 _ f.0 c.vector9.ensures) in
+    answers _ _ _ _ _ _ _ _ (ap not c.if-not-matrix-out.false) (ap (λ (d : LoneFactor). d.refusal) e) (c.factor_numbers-values.ensures ∙ ap (λ (p : LoneFactor). factor_numbers p) e) ((let it : length c.factor_numbers-values.result ≡ 7 = search rules in it) ∙ sym f.1) c.answer.ensures

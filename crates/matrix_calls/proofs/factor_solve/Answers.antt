@@ -17,11 +17,9 @@ returns-then-not-inverse-x c = too_short _ _ _ _ _ (ap not c.if-not-inverse-x.tr
 pub returns : goal.returns
 unfolding factor_solve
 returns c =
-    let f = (let it : (length c.args.inverse.now ≡ 6) × (length c.args.x.now ≡ 3) × (length c.args.out.now ≡ 3) = three_fit (length c.args.inverse.now) (length c.args.x.now) (length c.args.out.now) 6 3 3 (ap not c.if-not-inverse-x.false) in it) in
-    let a = c in
-    let start = a in
+    let f : (length c.args.inverse.now ≡ 6) × (length c.args.x.now ≡ 3) × (length c.args.out.now ≡ 3) = three_fit (length c.args.inverse.now) (length c.args.x.now) (length c.args.out.now) 6 3 3 (ap not c.if-not-inverse-x.false) in
     let e =
-    a.solve-values.ensures
-    ∙ ap (λ (m : List Float). Factor.solve m a.vector3.result) (whole start.args.inverse.now 6 _ f.0 a.vector6.ensures)
-    ∙ ap (λ (m : List Float). Factor.solve start.args.inverse.now m) (whole start.args.x.now 3 _ f.1 a.vector3.ensures) in
-    answers _ _ _ _ _ _ _ _ (ap not a.if-not-inverse-x.false) a.none-2.ensures e ((let it : length a.solve-values.result ≡ 3 = search rules in it) ∙ sym f.2) a.answer.ensures
+    c.solve-values.ensures
+    ∙ ap (λ (m : List Float). Factor.solve m c.vector3.result) (whole c.args.inverse.now 6 _ f.0 c.vector6.ensures)
+    ∙ ap (λ (m : List Float). Factor.solve c.args.inverse.now m) (whole c.args.x.now 3 _ f.1 c.vector3.ensures) in
+    answers _ _ _ _ _ _ _ _ (ap not c.if-not-inverse-x.false) c.none-2.ensures e ((let it : length c.solve-values.result ≡ 3 = search rules in it) ∙ sym f.2) c.answer.ensures

@@ -18,11 +18,9 @@ returns-then-not-a-b c = too_short _ _ _ _ _ (ap not c.if-not-a-b.true) c.length
 pub returns : goal.returns
 unfolding solve_positive_definite
 returns c =
-    let f = (let it : (length c.args.a.now ≡ 25) × (length c.args.b.now ≡ 5) × (length c.args.out.now ≡ 5) = three_fit (length c.args.a.now) (length c.args.b.now) (length c.args.out.now) 25 5 5 (ap not c.if-not-a-b.false) in it) in
-    let a = c in
-    let start = a in
+    let f : (length c.args.a.now ≡ 25) × (length c.args.b.now ≡ 5) × (length c.args.out.now ≡ 5) = three_fit (length c.args.a.now) (length c.args.b.now) (length c.args.out.now) 25 5 5 (ap not c.if-not-a-b.false) in
     let e =
-    a.solve_positive_definite-s.ensures
-    ∙ ap (λ (m : List Float). Solver.solve_positive_definite m a.vector5.result) (whole _ 25 _ f.0 a.vector25.ensures)
-    ∙ ap (λ (m : List Float). Solver.solve_positive_definite start.args.a.now m) (whole _ 5 _ f.1 a.vector5.ensures) in
-    answers _ _ _ _ _ _ _ _ (ap not a.if-not-a-b.false) (ap (λ (d : Solved). d.refusal) e) (ap (λ (d : Solved). d.x) e) ((let it : length a.solve_positive_definite-s.result.x ≡ 5 = search rules in it) ∙ sym f.2) a.answer.ensures
+    c.solve_positive_definite-s.ensures
+    ∙ ap (λ (m : List Float). Solver.solve_positive_definite m c.vector5.result) (whole _ 25 _ f.0 c.vector25.ensures)
+    ∙ ap (λ (m : List Float). Solver.solve_positive_definite c.args.a.now m) (whole _ 5 _ f.1 c.vector5.ensures) in
+    answers _ _ _ _ _ _ _ _ (ap not c.if-not-a-b.false) (ap (λ (d : Solved). d.refusal) e) (ap (λ (d : Solved). d.x) e) ((let it : length c.solve_positive_definite-s.result.x ≡ 5 = search rules in it) ∙ sym f.2) c.answer.ensures

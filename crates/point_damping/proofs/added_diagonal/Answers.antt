@@ -1,9 +1,8 @@
+-- `point_damping::added_diagonal` meets its contract. Assumes nothing.
 use mathlib.Core.Path.{refl}
 use Rattle.point_damping.specs.Damping.{added_diagonal}
-use native.Mathlib.Omega.{arith}
 use Rattle.point_damping.proofs.added_diagonal.Goals as goal
 
--- `point_damping::added_diagonal` meets its contract. Assumes nothing.
 pub returns : goal.returns
 unfolding added_diagonal
 returns c = refl

@@ -1,12 +1,7 @@
-use mathlib.Core.Path.{◌≡◌, refl}
-use Prim.Native.Nat.{◌-◌, ◌≤◌}
+use mathlib.Core.Path.{refl}
 use native.Mathlib.Omega.{arith}
-use borrow.Author.Rules.{rules}
-use Rattle.number.proofs.Fill.{filled_of, array_none, array_next, array_full}
-use Rattle.number.specs.Binary64.{◌⊕◌}
-use Rattle.number.specs.Vectors.{◌!◌}
-use Rattle.pose_model.specs.PoseModel.{dot5}
-use Rattle.point_step.specs.PointStep.{cross_column, right_hand_side}
+use Rattle.number.proofs.Fill.{array_none, array_next, array_full}
+use Rattle.point_step.specs.PointStep.{right_hand_side}
 use Rattle.point_step.proofs.right_hand_side.Goals as goal
 
 pub loop-i-init : goal.loop-i-init

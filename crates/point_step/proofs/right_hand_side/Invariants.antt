@@ -1,12 +1,10 @@
-use mathlib.Core.Path.{◌≡◌, refl}
+use mathlib.Core.Path.{◌≡◌}
 use Prim.Native.Nat.{◌-◌, ◌≤◌}
-use native.Mathlib.Omega.{arith}
-use borrow.Author.Rules.{rules}
-use Rattle.number.proofs.Fill.{filled_of, array_none, array_next, array_full}
+use Rattle.number.proofs.Fill.{filled_of}
 use Rattle.number.specs.Binary64.{◌⊕◌}
 use Rattle.number.specs.Vectors.{◌!◌}
 use Rattle.pose_model.specs.PoseModel.{dot5}
-use Rattle.point_step.specs.PointStep.{cross_column, right_hand_side}
+use Rattle.point_step.specs.PointStep.{cross_column}
 use Rattle.point_step.proofs.right_hand_side.Given as goal
 
 abbrev pub invariant-loop-i : goal.invariant-loop-i

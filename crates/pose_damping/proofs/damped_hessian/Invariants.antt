@@ -1,9 +1,7 @@
 use mathlib.Core.Path.{◌≡◌}
 use Prim.Native.Nat.{◌-◌, ◌≤◌}
-use native.Mathlib.Omega.{arith}
-use borrow.Author.Rules.{rules}
-use Rattle.number.proofs.Fill.{filled_of, array_none, array_next, array_full}
-use Rattle.pose_damping.specs.PoseDamping.{damped_entry, damped_hessian}
+use Rattle.number.proofs.Fill.{filled_of}
+use Rattle.pose_damping.specs.PoseDamping.{damped_entry}
 use Rattle.pose_damping.proofs.damped_hessian.Given as goal
 
 abbrev pub invariant-loop-k : goal.invariant-loop-k

@@ -1,10 +1,6 @@
-use mathlib.Core.Path.{◌≡◌, refl}
-use Prim.Native.Nat.{◌-◌, ◌≤◌}
+use mathlib.Core.Path.{refl}
 use native.Mathlib.Omega.{arith}
-use borrow.Author.Rules.{rules}
-use Rattle.number.proofs.Fill.{filled_of, array_none, array_next, array_full}
-use Rattle.number.specs.Binary64.{◌⊗◌}
-use Rattle.number.specs.Vectors.{◌!◌}
+use Rattle.number.proofs.Fill.{array_none, array_next, array_full}
 use Rattle.pose_model.specs.PoseModel.{dot5}
 use Rattle.pose_damping.specs.PoseDamping.{pose_damping_norm}
 use Rattle.pose_damping.proofs.pose_damping_norm.Goals as goal

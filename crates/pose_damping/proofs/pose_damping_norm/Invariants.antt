@@ -1,12 +1,8 @@
-use mathlib.Core.Path.{◌≡◌, refl}
+use mathlib.Core.Path.{◌≡◌}
 use Prim.Native.Nat.{◌-◌, ◌≤◌}
-use native.Mathlib.Omega.{arith}
-use borrow.Author.Rules.{rules}
-use Rattle.number.proofs.Fill.{filled_of, array_none, array_next, array_full}
+use Rattle.number.proofs.Fill.{filled_of}
 use Rattle.number.specs.Binary64.{◌⊗◌}
 use Rattle.number.specs.Vectors.{◌!◌}
-use Rattle.pose_model.specs.PoseModel.{dot5}
-use Rattle.pose_damping.specs.PoseDamping.{pose_damping_norm}
 use Rattle.pose_damping.proofs.pose_damping_norm.Given as goal
 
 abbrev pub invariant-loop-i : goal.invariant-loop-i

@@ -1,8 +1,6 @@
-use mathlib.Core.Path.{◌≡◌, refl}
-use Prim.Native.Nat.{◌*◌, ◌-◌, ◌≤◌}
+use mathlib.Core.Path.{refl}
 use native.Mathlib.Omega.{arith}
-use Rattle.number.proofs.Fill.{filled_of, array_none, array_next, array_full}
-use Rattle.number.specs.Vectors.{◌!◌}
+use Rattle.number.proofs.Fill.{array_none, array_next, array_full}
 use Rattle.pose_model.specs.PoseModel.{diagonal5}
 use Rattle.pose_model.proofs.diagonal5.Goals as goal
 

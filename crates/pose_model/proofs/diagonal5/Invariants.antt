@@ -1,9 +1,7 @@
-use mathlib.Core.Path.{◌≡◌, refl}
+use mathlib.Core.Path.{◌≡◌}
 use Prim.Native.Nat.{◌*◌, ◌-◌, ◌≤◌}
-use native.Mathlib.Omega.{arith}
-use Rattle.number.proofs.Fill.{filled_of, array_none, array_next, array_full}
+use Rattle.number.proofs.Fill.{filled_of}
 use Rattle.number.specs.Vectors.{◌!◌}
-use Rattle.pose_model.specs.PoseModel.{diagonal5}
 use Rattle.pose_model.proofs.diagonal5.Given as goal
 
 abbrev pub invariant-loop-i : goal.invariant-loop-i

@@ -1,9 +1,7 @@
-use mathlib.Core.Path.{◌≡◌, refl}
-use Prim.Native.Nat.{◌-◌, ◌≤◌}
+use mathlib.Core.Path.{refl}
 use native.Mathlib.Omega.{arith}
-use borrow.Author.Rules.{rules}
-use Rattle.number.proofs.Fill.{filled_of, array_none, array_next, array_full}
-use Rattle.pose_model.specs.PoseModel.{dot5, hessian_row, quadratic}
+use Rattle.number.proofs.Fill.{array_none, array_next, array_full}
+use Rattle.pose_model.specs.PoseModel.{quadratic}
 use Rattle.pose_model.proofs.quadratic.Goals as goal
 
 pub loop-i-init : goal.loop-i-init

@@ -1,9 +1,7 @@
-use mathlib.Core.Path.{◌≡◌, refl}
+use mathlib.Core.Path.{◌≡◌}
 use Prim.Native.Nat.{◌-◌, ◌≤◌}
-use native.Mathlib.Omega.{arith}
-use borrow.Author.Rules.{rules}
-use Rattle.number.proofs.Fill.{filled_of, array_none, array_next, array_full}
-use Rattle.pose_model.specs.PoseModel.{dot5, hessian_row, quadratic}
+use Rattle.number.proofs.Fill.{filled_of}
+use Rattle.pose_model.specs.PoseModel.{dot5, hessian_row}
 use Rattle.pose_model.proofs.quadratic.Given as goal
 
 abbrev pub invariant-loop-i : goal.invariant-loop-i

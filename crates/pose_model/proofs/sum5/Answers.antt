@@ -1,9 +1,6 @@
-use mathlib.Core.Path.{◌≡◌, refl}
-use Prim.Native.Nat.{◌-◌, ◌≤◌}
+use mathlib.Core.Path.{refl}
 use native.Mathlib.Omega.{arith}
-use Rattle.number.proofs.Fill.{filled_of, array_none, array_next, array_full}
-use Rattle.number.specs.Binary64.{◌⊕◌}
-use Rattle.number.specs.Vectors.{◌!◌}
+use Rattle.number.proofs.Fill.{array_none, array_next, array_full}
 use Rattle.pose_model.specs.PoseModel.{sum5}
 use Rattle.pose_model.proofs.sum5.Goals as goal
 

@@ -1,13 +1,12 @@
+-- `pose_step::limit_pose_step` meets its contract. Assumes nothing.
 use Rattle.number.specs.Binary64.{◌⊘◌, half}
 use Rattle.pose_step.specs.PoseStep.{step_length, scaled, limit_pose_step}
 use mathlib.Core.Bool.{Bool, cond}
 use mathlib.Core.List.{List}
 use mathlib.Core.Path.{◌≡◌, sym, ◌∙◌}
 use lib.Ieee.{Float, lt}
-use borrow.Author.Rules.{rules}
 use Rattle.pose_step.proofs.limit_pose_step.Goals as goal
 
--- `pose_step::limit_pose_step` meets its contract. Assumes nothing.
 -- the limited step, by whether the length is above the limit
 limited : (x : List Float) (length : Float) (above : Bool) → length ≡ step_length x → lt half length ≡ above → limit_pose_step x ≡ cond above (scaled x (half ⊘ length)) x
 unfolding limit_pose_step

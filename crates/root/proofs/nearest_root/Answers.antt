@@ -1,13 +1,12 @@
+-- `root::nearest_root` meets its contract. Assumes nothing.
 use mathlib.Core.Path.{◌≡◌, refl, sym}
 use mathlib.Core.Bool.{Bool, true, false, false≢true, ◌||◌}
 use mathlib.Core.Logic.{◌⊎◌, inl, inr}
 use Prim.Native.Nat.{ℕ, ◌+◌, ◌-◌, ◌^◌, ◌<◌}
 use lib.Dec.{ltb}
 use borrow.Author.Tests.{ltb-true}
-use borrow.Author.Rules.{rules}
 use Rattle.root.proofs.nearest_root.Goals as goal
 
--- `root::nearest_root` meets its contract. Assumes nothing.
 -- the test of both ends at once
 ends : (d : ℕ) (a b : Bool) → a ≡ ltb d (2 ^ 52 + 2 ^ 26) → b ≡ ltb (2 ^ 54 - 2 ^ 26) d → (a || b) ≡ true → (d < 2 ^ 52 + 2 ^ 26) ⊎ (2 ^ 54 - 2 ^ 26 < d)
 ends d true b e f t = inl (ltb-true d (2 ^ 52 + 2 ^ 26) (sym e))

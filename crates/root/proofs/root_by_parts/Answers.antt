@@ -1,8 +1,8 @@
+-- `root::root_by_parts` meets its contract: `Whole` has how large each step's result is, and that the last test finds the nearest root. Assumes nothing.
 use native.Mathlib.Omega.{arith}
 use Rattle.root.proofs.Whole.{sizes, root_above, root_below}
 use Rattle.root.proofs.root_by_parts.Goals as goal
 
--- `root::root_by_parts` meets its contract: `Whole` has how large each step's result is, and that the last test finds the nearest root. Assumes nothing.
 pub overflow_mul-rest-2 : goal.overflow_mul-rest-2
 overflow_mul-rest-2 c = let s = sizes c.args.d c.whole_root-high.result c.whole_root-high.ensures c.requires.0 c.requires.1 in omega arith
 
@@ -31,11 +31,7 @@ pub overflow_add-result : goal.overflow_add-result
 overflow_add-result c = let s = sizes c.args.d c.whole_root-high.result c.whole_root-high.ensures c.requires.0 c.requires.1 in omega arith
 
 pub returns-then-root-low : goal.returns-then-root-low
-returns-then-root-low c =
-    let w = c in
-    root_above w.args.d w.whole_root-high.result w.whole_root-high.ensures w.requires.0 c.if-root-low.true
+returns-then-root-low c = root_above c.args.d c.whole_root-high.result c.whole_root-high.ensures c.requires.0 c.if-root-low.true
 
 pub returns-else-root-low : goal.returns-else-root-low
-returns-else-root-low c =
-    let w = c in
-    root_below w.args.d w.whole_root-high.result w.whole_root-high.ensures w.requires.0 c.if-root-low.false
+returns-else-root-low c = root_below c.args.d c.whole_root-high.result c.whole_root-high.ensures c.requires.0 c.if-root-low.false

@@ -1,11 +1,10 @@
+-- `root::root_near_one` meets its contract: `Whole` has both ends of the range. Assumes nothing.
 use mathlib.Core.Logic.{◌⊎◌, inl, inr}
 use Prim.Native.Nat.{ℕ, ◌+◌, ◌-◌, ◌^◌, ◌≤◌, ◌<◌}
 use native.Mathlib.Omega.{arith}
-use borrow.Author.Rules.{rules}
 use Rattle.root.proofs.Whole.{root_over, root_under}
 use Rattle.root.proofs.root_near_one.Goals as goal
 
--- `root::root_near_one` meets its contract: `Whole` has both ends of the range. Assumes nothing.
 low_end : (d : ℕ) → d < 2 ^ 53 → (d < 2 ^ 52 + 2 ^ 26) ⊎ (2 ^ 54 - 2 ^ 26 < d) → d < 2 ^ 52 + 2 ^ 26
 low_end d h (inl l) = l
 low_end d h (inr u) = absurd (omega arith)

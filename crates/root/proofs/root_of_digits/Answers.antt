@@ -1,3 +1,4 @@
+-- `root::root_of_digits` meets its contract: an odd power leaves a factor of two to the digits. Assumes nothing.
 use mathlib.Core.Path.{◌≡◌, sym, ap, subst, ◌∙◌}
 use mathlib.Core.Logic.{◌⊎◌, inl, inr}
 use Prim.Native.Nat.{ℕ, ◌+◌, ◌*◌, ◌/◌, ◌%◌, ◌^◌, ◌≤◌, ◌<◌}
@@ -12,7 +13,6 @@ use Rattle.root.proofs.Rounded.{root_pattern}
 use Rattle.root.proofs.root_of_digits.Goals as goal
 use Rattle.root.proofs.root_of_digits.Goals.{then-power-eq0, else-power-eq0}
 
--- `root::root_of_digits` meets its contract: an odd power leaves a factor of two to the digits. Assumes nothing.
 -- d * 2 ^ 52 with an even power of two beside it is m * 2 ^ (p + 52)
 record Evened (m p d : ℕ) : Type 0 where
   low : 2 ^ 52 ≤ d
@@ -63,23 +63,21 @@ nearest_root-requires c = let e = evened c.args.m c.args.power c.requires.0 c.re
 
 pub overflow_add-result : goal.overflow_add-result
 overflow_add-result c =
-    let start = c in
-    let m = start.args.m in
-    let p = start.args.power in
+    let m = c.args.m in
+    let p = c.args.power in
     let d = c.if-power-eq0.d in
-    sum p c.nearest_root.result start.requires.2 (nearest_high (d * 2 ^ 52) c.nearest_root.result (2 ^ 53) (high m p d (evened c.args.m c.args.power c.requires.0 c.requires.1 c.if-power-eq0.d (elim c.if-power-eq0.branch [ then-power-eq0 w ↦ inl (w.if-power-eq0.true, w.d-is) | else-power-eq0 w ↦ inr (w.if-power-eq0.false, w.d-is) ]))) c.nearest_root.ensures)
+    sum p c.nearest_root.result c.requires.2 (nearest_high (d * 2 ^ 52) c.nearest_root.result (2 ^ 53) (high m p d (evened c.args.m c.args.power c.requires.0 c.requires.1 c.if-power-eq0.d (elim c.if-power-eq0.branch [ then-power-eq0 w ↦ inl (w.if-power-eq0.true, w.d-is) | else-power-eq0 w ↦ inr (w.if-power-eq0.false, w.d-is) ]))) c.nearest_root.ensures)
   where
     sum : (p r : ℕ) → p < 4000 → r ≤ 2 ^ 53 → Fits w64 (p / 2 * 2 ^ 52 + r)
     sum p r h k = record { fits = omega arith }
 
 pub returns : goal.returns
 returns c =
-    let start = c in
-    let m = start.args.m in
-    let p = start.args.power in
+    let m = c.args.m in
+    let p = c.args.power in
     let d = c.if-power-eq0.d in
     let e = evened c.args.m c.args.power c.requires.0 c.requires.1 c.if-power-eq0.d (elim c.if-power-eq0.branch [ then-power-eq0 w ↦ inl (w.if-power-eq0.true, w.d-is) | else-power-eq0 w ↦ inr (w.if-power-eq0.false, w.d-is) ]) in
-    sym (root_pattern _ (d * 2 ^ 52) (p / 2) c.nearest_root.result e.same (low m p d e) (high m p d e) c.nearest_root.ensures (halved p start.requires.2))
+    sym (root_pattern _ (d * 2 ^ 52) (p / 2) c.nearest_root.result e.same (low m p d e) (high m p d e) c.nearest_root.ensures (halved p c.requires.2))
   where
     halved : (p : ℕ) → p < 4000 → p / 2 < 2000
     halved p h = omega arith

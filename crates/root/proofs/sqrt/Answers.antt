@@ -1,3 +1,4 @@
+-- `root::sqrt` meets its contract: what lies above zero and is finite goes by its pattern, and every other value by cases. Assumes nothing.
 use mathlib.Core.Path.{◌≡◌, refl, sym, ap, subst, ◌∙◌}
 use mathlib.Core.Bool.{Bool, true, false, not, cond, false≢true}
 use Prim.Native.Nat.{ℕ, zero, suc, ◌+◌, ◌*◌, ◌/◌, ◌%◌, ◌^◌, ◌≤◌, ◌<◌, zero-le}
@@ -15,7 +16,6 @@ use Rattle.root.proofs.Patterns.{plain_finite}
 use Rattle.root.proofs.Correct.{sqrt_correct}
 use Rattle.root.proofs.sqrt.Goals as goal
 
--- `root::sqrt` meets its contract: what lies above zero and is finite goes by its pattern, and every other value by cases. Assumes nothing.
 -- ---- above zero
 number : (x : Float) → lt Binary64.zero x ≡ true → T (not (is_nan x))
 unfolding lt of_bits is_nan

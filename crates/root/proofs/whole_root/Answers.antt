@@ -5,8 +5,8 @@ use Rattle.root.proofs.Whole.{heron, quotient_lt, square_fits}
 use Rattle.root.proofs.whole_root.Goals as goal
 
 -- a mean of a guess within these bounds and of what it leaves
-mean-in : (d g : ℕ) → d < 2 ^ 54 → 2 ^ 24 ≤ g → g < 2 ^ 31 → (g + d / g) / 2 < 2 ^ 31
-mean-in d g D l h = let q = quotient_lt d g D l in omega arith
+mean_in : (d g : ℕ) → d < 2 ^ 54 → 2 ^ 24 ≤ g → g < 2 ^ 31 → (g + d / g) / 2 < 2 ^ 31
+mean_in d g D l h = let q = quotient_lt d g D l in omega arith
 
 positive : (d r : ℕ) → d < r * r → 1 ≤ r
 positive d zero h = omega arith
@@ -20,7 +20,7 @@ loop-root-init c =
     let d = c.args.d in
     let g = c.first_guess-guess.result in
     let l : 2 ^ 25 ≤ g = c.first_guess-guess.ensures.0 in
-    (heron d g (omega arith), mean-in d g c.requires.1 (omega arith) (omega arith))
+    (heron d g (omega arith), mean_in d g c.requires.1 (omega arith) (omega arith))
 
 pub overflow_mul-root : goal.overflow_mul-root
 overflow_mul-root c = record { fits = let s = square_fits c.loop-root.root c.loop-root.invariant.1 in omega arith }

@@ -1,3 +1,4 @@
+-- `run::number_from` meets its contract. Assumes nothing.
 use Rattle.run.specs.Run.{half, word, number_at}
 use lib.Ieee.{binary64, of_bits}
 use Prim.Native.Nat.{ℕ, ◌+◌, ◌*◌}
@@ -6,7 +7,6 @@ use native.Mathlib.Omega.{arith}
 use borrow.Author.Rules.{rules}
 use Rattle.run.proofs.number_from.Goals as goal
 
--- `run::number_from` meets its contract. Assumes nothing.
 pub returns : goal.returns
 unfolding word number_at
 returns c =

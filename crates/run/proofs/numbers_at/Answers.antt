@@ -11,14 +11,11 @@ loop-j-init c = (omega arith, refl, refl, refl)
 
 pub loop-j-preserved : goal.loop-j-preserved
 loop-j-preserved c =
-    let l = c in
-    let a = l.args in
-    (omega arith, l.loop-j.invariant.1, length-set l.loop-j.out _ _ ∙ l.loop-j.invariant.2, fill_next a.out.now l.loop-j.out (λ k. number_at a.«record».now (a.at + 8 * k)) l.loop-j.j _ l.loop-j.invariant.3 c.number_from.ensures (omega arith))
+    let a = c.args in
+    (omega arith, c.loop-j.invariant.1, length-set c.loop-j.out _ _ ∙ c.loop-j.invariant.2, fill_next a.out.now c.loop-j.out (λ k. number_at a.«record».now (a.at + 8 * k)) c.loop-j.j _ c.loop-j.invariant.3 c.number_from.ensures (omega arith))
 
 pub shape_of-out : goal.shape_of-out
 shape_of-out c = c.loop-j.invariant.2
 
 pub returns : goal.returns
-returns c =
-    let l = c in
-    fill_all _ _ _ l.loop-j.j _ l.loop-j.invariant.3 (omega arith) refl
+returns c = fill_all _ _ _ c.loop-j.j _ c.loop-j.invariant.3 (omega arith) refl

@@ -1,8 +1,8 @@
+-- `schur::raised` meets its contract. Assumes nothing.
 use native.Mathlib.Numerals.{add-one}
 use native.Mathlib.Omega.{arith}
 use borrow.Author.Rules.{rules}
 use Rattle.schur.proofs.raised.Goals as goal
 
--- `schur::raised` meets its contract. Assumes nothing.
 pub returns-then-by_one : goal.returns-then-by_one
 returns-then-by_one c = rw c.if-by_one.true (add-one c.args.count)

@@ -1,8 +1,7 @@
-use mathlib.Core.Path.{◌≡◌, refl, ◌∙◌}
-use Prim.Native.Nat.{◌+◌, ◌-◌, ◌≤◌}
+use mathlib.Core.Path.{refl, ◌∙◌}
 use native.Mathlib.Omega.{arith}
-use lib.ListN.{length, length-set}
-use lib.Seq.{paste, paste-zero}
+use lib.ListN.{length-set}
+use lib.Seq.{paste-zero}
 use Rattle.slices.proofs.Laws.{put_copied, copy_next, put_not}
 use Rattle.slices.proofs.copy.Goals as goal
 
@@ -18,21 +17,19 @@ loop-i-init c =
     (omega arith, refl, refl, omega arith, refl, paste-zero a.out.now a.start a.values.now)
 
 pub loop-i-preserved : goal.loop-i-preserved
-loop-i-preserved c =
-    let l = c in (
-      omega arith,
-      l.loop-i.invariant.1,
-      l.loop-i.invariant.2,
-      l.loop-i.invariant.3,
-      length-set l.loop-i.out _ _ ∙ l.loop-i.invariant.4,
-      copy_next _ _ _ _ _ l.loop-i.invariant.5 l.loop-i.invariant.3 (omega arith),
-    )
+loop-i-preserved c = (
+  omega arith,
+  c.loop-i.invariant.1,
+  c.loop-i.invariant.2,
+  c.loop-i.invariant.3,
+  length-set c.loop-i.out _ _ ∙ c.loop-i.invariant.4,
+  copy_next _ _ _ _ _ c.loop-i.invariant.5 c.loop-i.invariant.3 (omega arith),
+)
 
 pub shape_of-out : goal.shape_of-out
 shape_of-out c = c.loop-i.invariant.4
 
 pub returns : goal.returns
 returns c =
-    let l = c in
-    let a = l.args in
-    put_copied a.values.now a.start a.out.now _ l.loop-i.i l.loop-i.invariant.5 l.loop-i.invariant.3 (omega arith)
+    let a = c.args in
+    put_copied a.values.now a.start a.out.now _ c.loop-i.i c.loop-i.invariant.5 c.loop-i.invariant.3 (omega arith)

@@ -1,11 +1,8 @@
-use mathlib.Core.Path.{◌≡◌, refl, ◌∙◌}
+use mathlib.Core.Path.{◌≡◌}
 use Prim.Native.Nat.{◌+◌, ◌-◌, ◌≤◌}
-use native.Mathlib.Omega.{arith}
-use borrow.Author.Rules.{rules}
-use lib.ListN.{length, length-set}
+use lib.ListN.{length}
 use Rattle.number.specs.Vectors.{◌!◌}
-use Rattle.number.proofs.Fill.{filled, fill_next, fill_all}
-use Rattle.slices.specs.Slices.{part}
+use Rattle.number.proofs.Fill.{filled}
 use Rattle.slices.proofs.read.Given as goal
 
 abbrev pub invariant-loop-i : goal.invariant-loop-i

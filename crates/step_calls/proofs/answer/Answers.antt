@@ -14,10 +14,9 @@ returns-then-not-is_none c =
 
 pub returns : goal.returns
 returns c =
-    let start = c in
     let n = c.is_none.ensures in
     let t = (ap not c.if-not-is_none.false) in (
       c.code-2.ensures,
-      stored_some _ _ _ _ n _ t (c.store.ensures.fits ((let it : length c.step_numbers-values.result ≡ 12 = search rules in it) ∙ sym start.requires.0) ∙ c.step_numbers-values.ensures),
-      stored_some _ _ _ _ n _ t (one_set start.args.weak.now _ start.requires.1),
+      stored_some _ _ _ _ n _ t (c.store.ensures.fits ((let it : length c.step_numbers-values.result ≡ 12 = search rules in it) ∙ sym c.requires.0) ∙ c.step_numbers-values.ensures),
+      stored_some _ _ _ _ n _ t (one_set c.args.weak.now _ c.requires.1),
     )

@@ -15,5 +15,5 @@ returns-then-not-x-out c = too_short _ _ _ _ _ (ap not c.if-not-x-out.true) c.le
 pub returns : goal.returns
 unfolding limit_pose_step
 returns c =
-    let f = (let it : (length c.args.x.now ≡ 5) × (length c.args.out.now ≡ 5) = two_fit (length c.args.x.now) (length c.args.out.now) 5 5 (ap not c.if-not-x-out.false) in it) in
+    let f : (length c.args.x.now ≡ 5) × (length c.args.out.now ≡ 5) = two_fit (length c.args.x.now) (length c.args.out.now) 5 5 (ap not c.if-not-x-out.false) in
     answers _ _ _ _ _ _ _ _ (ap not c.if-not-x-out.false) c.none.ensures (c.limit_pose_step-values.ensures ∙ ap PoseStep.limit_pose_step (whole _ 5 _ f.0 c.vector5.ensures)) ((let it : length c.limit_pose_step-values.result ≡ 5 = search rules in it) ∙ sym f.1) c.answer.ensures

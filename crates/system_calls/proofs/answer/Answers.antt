@@ -21,25 +21,20 @@ pub bounds-counts-0 : goal.bounds-counts-0
 bounds-counts-0 c = omega (arith, c.requires.1)
 
 pub bounds-counts-1 : goal.bounds-counts-1
-bounds-counts-1 c =
-    let start = c in
-    lt-length-set start.args.counts.now 0 _ (omega (arith, start.requires.1))
+bounds-counts-1 c = lt-length-set c.args.counts.now 0 _ (omega (arith, c.requires.1))
 
 pub bounds-counts-2 : goal.bounds-counts-2
 bounds-counts-2 c =
-    let start = c in
-    lt-length-set (set start.args.counts.now 0 start.args.next.weak_point_count) 1 _ (lt-length-set start.args.counts.now 0 _ (omega (arith, start.requires.1)))
+    lt-length-set (set c.args.counts.now 0 c.args.next.weak_point_count) 1 _ (lt-length-set c.args.counts.now 0 _ (omega (arith, c.requires.1)))
 
 pub returns : goal.returns
 unfolding system_counts
 returns c =
-    let start = c in
-    let h = start.requires in
-    let s = start.args.next in
+    let h = c.requires in
+    let s = c.args.next in
     let n = c.is_none.ensures in
-    let t = (ap not c.if-not-is_none.false) in
-    let p = c in (
+    let t = (ap not c.if-not-is_none.false) in (
       c.code-2.ensures,
-      stored_some _ _ _ _ n _ t (p.store.ensures.fits ((let it : length p.system_numbers-values.result ≡ 45 = search rules in it) ∙ sym h.0) ∙ c.system_numbers-values.ensures),
-      stored_some _ _ _ _ n _ t (three_set start.args.counts.now _ _ _ h.1 ∙ ap (λ (k : ℕ). s.weak_point_count ∷ s.block_count ∷ k ∷ []) c.flag.ensures),
+      stored_some _ _ _ _ n _ t (c.store.ensures.fits ((let it : length c.system_numbers-values.result ≡ 45 = search rules in it) ∙ sym h.0) ∙ c.system_numbers-values.ensures),
+      stored_some _ _ _ _ n _ t (three_set c.args.counts.now _ _ _ h.1 ∙ ap (λ (k : ℕ). s.weak_point_count ∷ s.block_count ∷ k ∷ []) c.flag.ensures),
     )

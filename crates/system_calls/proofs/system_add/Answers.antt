@@ -18,16 +18,15 @@ returns-then-not-system-counts c = too_short_system _ _ _ _ _ _ (ap not c.if-not
 
 pub answer-requires : goal.answer-requires
 answer-requires c =
-    let f = (let it : (length c.args.system.now ≡ 45) × (length c.args.counts.now ≡ 3) × (length c.args.block.now ≡ 59) = three_fit (length c.args.system.now) (length c.args.counts.now) (length c.args.block.now) 45 3 59 (ap not c.if-not-system-counts.false) in it) in
+    let f : (length c.args.system.now ≡ 45) × (length c.args.counts.now ≡ 3) × (length c.args.block.now ≡ 59) = three_fit (length c.args.system.now) (length c.args.counts.now) (length c.args.block.now) 45 3 59 (ap not c.if-not-system-counts.false) in
     (f.0, f.1)
 
 pub returns : goal.returns
 unfolding add
 returns c =
-    let f = (let it : (length c.args.system.now ≡ 45) × (length c.args.counts.now ≡ 3) × (length c.args.block.now ≡ 59) = three_fit (length c.args.system.now) (length c.args.counts.now) (length c.args.block.now) 45 3 59 (ap not c.if-not-system-counts.false) in it) in
-    let start = c in
+    let f : (length c.args.system.now ≡ 45) × (length c.args.counts.now ≡ 3) × (length c.args.block.now ≡ 59) = three_fit (length c.args.system.now) (length c.args.counts.now) (length c.args.block.now) 45 3 59 (ap not c.if-not-system-counts.false) in
     let e =
     c.add-added.ensures
-    ∙ ap (λ (s : ReducedSystem). System.add s c.block.result start.args.damping) c.system-s.ensures
-    ∙ ap (λ (b : LocalLinearization). System.add (system start.args.system.now start.args.counts.now) b start.args.damping) c.block.ensures in
+    ∙ ap (λ (s : ReducedSystem). System.add s c.block.result c.args.damping) c.system-s.ensures
+    ∙ ap (λ (b : LocalLinearization). System.add (system c.args.system.now c.args.counts.now) b c.args.damping) c.block.ensures in
     changes _ _ _ _ _ _ _ _ _ _ (ap not c.if-not-system-counts.false) (ap (λ (a : Added). a.refusal) e) (ap (λ (a : Added). a.system) e) c.answer.ensures

@@ -16,13 +16,13 @@ returns-then-not-system-counts c = too_short_system _ _ _ _ _ _ (ap not c.if-not
 
 pub answer-requires : goal.answer-requires
 answer-requires c =
-    let f = (let it : (length c.args.system.now ≡ 45) × (length c.args.counts.now ≡ 3) = two_fit (length c.args.system.now) (length c.args.counts.now) 45 3 (ap not c.if-not-system-counts.false) in it) in
+    let f : (length c.args.system.now ≡ 45) × (length c.args.counts.now ≡ 3) = two_fit (length c.args.system.now) (length c.args.counts.now) 45 3 (ap not c.if-not-system-counts.false) in
     (f.0, f.1)
 
 pub returns : goal.returns
 unfolding finish_damping
 returns c =
-    let f = (let it : (length c.args.system.now ≡ 45) × (length c.args.counts.now ≡ 3) = two_fit (length c.args.system.now) (length c.args.counts.now) 45 3 (ap not c.if-not-system-counts.false) in it) in
+    let f : (length c.args.system.now ≡ 45) × (length c.args.counts.now ≡ 3) = two_fit (length c.args.system.now) (length c.args.counts.now) 45 3 (ap not c.if-not-system-counts.false) in
     let e =
     c.finish_damping-finished.ensures
     ∙ ap (λ (s : ReducedSystem). Model.finish_damping s c.args.damping) c.system-s.ensures in

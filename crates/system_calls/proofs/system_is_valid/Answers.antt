@@ -24,7 +24,7 @@ bounds-out-0 c = omega (arith, ((let it : (length c.args.system.now ≡ 45) × (
 pub returns : goal.returns
 unfolding is_valid
 returns c =
-    let f = (let it : (length c.args.system.now ≡ 45) × (length c.args.counts.now ≡ 3) × (length c.args.out.now ≡ 1) = three_fit (length c.args.system.now) (length c.args.counts.now) (length c.args.out.now) 45 3 1 (ap not c.if-not-system-counts.false) in it) in
+    let f : (length c.args.system.now ≡ 45) × (length c.args.counts.now ≡ 3) × (length c.args.out.now ≡ 1) = three_fit (length c.args.system.now) (length c.args.counts.now) (length c.args.out.now) 45 3 1 (ap not c.if-not-system-counts.false) in
     let e =
     c.flag.ensures
     ∙ ap (λ (b : Bool). flag b) c.is_valid.ensures

@@ -14,11 +14,11 @@ returns-then-not-system-counts c = too_short_system _ _ _ _ _ _ (ap not c.if-not
 
 pub answer-requires : goal.answer-requires
 answer-requires c =
-    let f = (let it : (length c.args.system.now ≡ 45) × (length c.args.counts.now ≡ 3) = two_fit (length c.args.system.now) (length c.args.counts.now) 45 3 (ap not c.if-not-system-counts.false) in it) in
+    let f : (length c.args.system.now ≡ 45) × (length c.args.counts.now ≡ 3) = two_fit (length c.args.system.now) (length c.args.counts.now) 45 3 (ap not c.if-not-system-counts.false) in
     (f.0, f.1)
 
 pub returns : goal.returns
 unfolding new_system
 returns c =
-    let f = (let it : (length c.args.system.now ≡ 45) × (length c.args.counts.now ≡ 3) = two_fit (length c.args.system.now) (length c.args.counts.now) 45 3 (ap not c.if-not-system-counts.false) in it) in
+    let f : (length c.args.system.now ≡ 45) × (length c.args.counts.now ≡ 3) = two_fit (length c.args.system.now) (length c.args.counts.now) 45 3 (ap not c.if-not-system-counts.false) in
     changes _ _ _ _ _ _ _ _ _ _ (ap not c.if-not-system-counts.false) c.none.ensures c.new.ensures c.answer.ensures

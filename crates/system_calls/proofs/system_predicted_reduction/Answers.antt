@@ -20,10 +20,9 @@ returns-then-not-system-counts c = too_short _ _ _ _ _ (ap not c.if-not-system-c
 pub returns : goal.returns
 unfolding predicted_reduction
 returns c =
-    let f = (let it : (length c.args.system.now ≡ 45) × (length c.args.counts.now ≡ 3) × (length c.args.step.now ≡ 5) × (length c.args.out.now ≡ 1) = four_fit (length c.args.system.now) (length c.args.counts.now) (length c.args.step.now) (length c.args.out.now) 45 3 5 1 (ap not c.if-not-system-counts.false) in it) in
-    let start = c in
+    let f : (length c.args.system.now ≡ 45) × (length c.args.counts.now ≡ 3) × (length c.args.step.now ≡ 5) × (length c.args.out.now ≡ 1) = four_fit (length c.args.system.now) (length c.args.counts.now) (length c.args.step.now) (length c.args.out.now) 45 3 5 1 (ap not c.if-not-system-counts.false) in
     let e =
     c.predicted_reduction-p.ensures
-    ∙ ap (λ (s : ReducedSystem). Model.predicted_reduction s c.vector5.result start.args.damping start.args.point_damping_norm) c.system-s.ensures
-    ∙ ap (λ (l : List Float). Model.predicted_reduction (system start.args.system.now start.args.counts.now) l start.args.damping start.args.point_damping_norm) (whole _ 5 _ f.2 c.vector5.ensures) in
+    ∙ ap (λ (s : ReducedSystem). Model.predicted_reduction s c.vector5.result c.args.damping c.args.point_damping_norm) c.system-s.ensures
+    ∙ ap (λ (l : List Float). Model.predicted_reduction (system c.args.system.now c.args.counts.now) l c.args.damping c.args.point_damping_norm) (whole _ 5 _ f.2 c.vector5.ensures) in
     answers _ _ _ _ _ _ _ _ (ap not c.if-not-system-counts.false) (ap (λ (p : Predicted). p.refusal) e) (ap (λ (p : Predicted). p.reduction ∷ []) e) (sym f.3) c.answer.ensures

@@ -17,7 +17,7 @@ returns-then-not-system-counts c = too_short _ _ _ _ _ (ap not c.if-not-system-c
 pub returns : goal.returns
 unfolding gradient_inf_norm
 returns c =
-    let f = (let it : (length c.args.system.now ≡ 45) × (length c.args.counts.now ≡ 3) × (length c.args.out.now ≡ 1) = three_fit (length c.args.system.now) (length c.args.counts.now) (length c.args.out.now) 45 3 1 (ap not c.if-not-system-counts.false) in it) in
+    let f : (length c.args.system.now ≡ 45) × (length c.args.counts.now ≡ 3) × (length c.args.out.now ≡ 1) = three_fit (length c.args.system.now) (length c.args.counts.now) (length c.args.out.now) 45 3 1 (ap not c.if-not-system-counts.false) in
     let e =
     c.scaled_gradient_inf_norm.ensures
     ∙ ap (λ (s : ReducedSystem). Model.gradient_inf_norm s) c.system-s.ensures in

@@ -1,9 +1,7 @@
 use lib.ListN.{drop}
-use mathlib.Core.Path.{sym, ◌∙◌, ◌≡◌, refl}
+use mathlib.Core.Path.{◌≡◌}
 use Rattle.text.specs.Text.{without_zeros}
-use Rattle.text.proofs.Puts.{zero_passed, other_found, nine_passed}
 use Prim.Native.Nat.{◌-◌, ◌≤◌}
-use native.Mathlib.Omega.{arith}
 use Rattle.text.proofs.leading_zeros.Given as goal
 
 abbrev pub invariant-loop-i : goal.invariant-loop-i

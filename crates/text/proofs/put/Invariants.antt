@@ -1,11 +1,7 @@
-use lib.ListN.{length, length-set, set, get_or}
-use lib.Seq.{paste, paste-zero}
-use mathlib.Core.List.{List}
-use mathlib.Core.Path.{ap, ◌∙◌, ◌≡◌, refl}
-use Prim.Native.Nat.{ℕ, ◌+◌, ◌-◌, ◌≤◌}
-use Rattle.text.proofs.Puts.{put_of, paste_next}
-use native.Mathlib.Omega.{arith}
-use borrow.Author.Rules.{rules}
+use lib.ListN.{length}
+use lib.Seq.{paste}
+use mathlib.Core.Path.{◌≡◌}
+use Prim.Native.Nat.{◌-◌, ◌≤◌}
 use Rattle.text.proofs.put.Given as goal
 
 abbrev pub invariant-loop-i : goal.invariant-loop-i

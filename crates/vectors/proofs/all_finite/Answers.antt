@@ -1,9 +1,5 @@
-use mathlib.Core.Path.{◌≡◌, refl}
-use Prim.Native.Nat.{◌-◌, ◌≤◌}
+use mathlib.Core.Path.{refl}
 use native.Mathlib.Omega.{arith}
-use borrow.Author.Rules.{rules}
-use lib.ListN.{length, drop}
-use Rattle.number.specs.Vectors.{all_finite}
 use Rattle.vectors.proofs.Finite.{finite_stops, finite_goes_on, finite_ends}
 use mathlib.Core.Path.{ap}
 use mathlib.Core.Bool.{not}
@@ -13,14 +9,11 @@ pub loop-i-init : goal.loop-i-init
 loop-i-init c = (omega arith, refl, refl)
 
 pub returns-then-not-is_finite : goal.returns-then-not-is_finite
-returns-then-not-is_finite c =
-    let l = c in
-    finite_stops _ _ l.loop-i.invariant.2 (omega arith) _ c.is_finite.ensures (ap not c.if-not-is_finite.true)
+returns-then-not-is_finite c = finite_stops _ _ c.loop-i.invariant.2 (omega arith) _ c.is_finite.ensures (ap not c.if-not-is_finite.true)
 
 pub loop-i-preserved : goal.loop-i-preserved
 loop-i-preserved c =
-    let l = c in
-    (omega arith, l.loop-i.invariant.1, finite_goes_on _ _ l.loop-i.invariant.2 (omega arith) _ c.is_finite.ensures (ap not c.if-not-is_finite.false))
+    (omega arith, c.loop-i.invariant.1, finite_goes_on _ _ c.loop-i.invariant.2 (omega arith) _ c.is_finite.ensures (ap not c.if-not-is_finite.false))
 
 pub returns : goal.returns
 returns c = finite_ends _ c.loop-i.i c.loop-i.invariant.2 (omega arith)

@@ -1,10 +1,8 @@
-use mathlib.Core.Path.{◌≡◌, refl}
+use mathlib.Core.Path.{◌≡◌}
 use Prim.Native.Nat.{◌-◌, ◌≤◌}
-use native.Mathlib.Omega.{arith}
-use Rattle.number.proofs.Fill.{filled_of, array_none, array_next, array_full}
+use Rattle.number.proofs.Fill.{filled_of}
 use Rattle.number.specs.Binary64.{◌⊗◌}
 use Rattle.number.specs.Vectors.{◌!◌}
-use Rattle.views.specs.Views.{first_view}
 use Rattle.views.proofs.first_view.Given as goal
 
 abbrev pub invariant-loop-i : goal.invariant-loop-i

@@ -1,15 +1,14 @@
-use mathlib.Core.Path.{◌≡◌, refl, ap, ◌∙◌}
+-- `views::weigh` meets its contract. Assumes nothing.
+use mathlib.Core.Path.{◌≡◌}
 use mathlib.Core.List.{List}
 use Prim.Native.Nat.{ℕ, ◌-◌, ◌≤◌}
-use lib.ListN.{length, length-set}
+use lib.ListN.{length}
 use lib.Ieee.{Float}
-use native.Mathlib.Omega.{arith}
-use Rattle.number.proofs.Fill.{filled, fill_next, fill_all, filled_at}
+use Rattle.number.proofs.Fill.{filled}
 use Rattle.number.specs.Binary64.{◌⊗◌}
 use Rattle.number.specs.Vectors.{◌!◌}
 use Rattle.views.proofs.weigh.Given as goal
 
--- `views::weigh` meets its contract. Assumes nothing.
 abbrev pub entry : List Float → Float → ℕ → Float
 entry x₀ weight i = weight ⊗ x₀ ! i
 

@@ -1,14 +1,9 @@
-use mathlib.Core.Path.{◌≡◌, refl, sym, ap, ◌∙◌}
+use mathlib.Core.Path.{◌≡◌}
 use Prim.Native.Nat.{◌-◌, ◌≤◌}
-use native.Mathlib.Omega.{arith}
-use borrow.Author.Rules.{rules}
-use Rattle.refusal.specs.Rows as Rows
-use Rattle.refusal.specs.Refused.{at, none, is_none}
+use Rattle.refusal.specs.Refused.{none}
 use Rattle.refusal.specs.First.{first}
 use Rattle.checks.specs.Checks.{view_refused, projection_refused}
-use Rattle.refusal.proofs.Scans.{Scanned, begins, ends, goes_on, leaves, is_good, is_bad, bad, row_refuses, none_refuses}
-use Rattle.checks.proofs.Parts.{view_test}
-use mathlib.Core.Bool.{not}
+use Rattle.refusal.proofs.Scans.{Scanned}
 use Rattle.checks.proofs.rows.projections_refused.Given as goal
 
 abbrev pub invariant-loop-view : goal.invariant-loop-view

@@ -1,13 +1,9 @@
 use mathlib.Core.Path.{refl, sym, ap, ◌∙◌}
-use Prim.Native.Nat.{◌-◌}
 use native.Mathlib.Omega.{arith}
-use borrow.Author.Rules.{rules}
 use Rattle.number.specs.Vectors.{all_finite}
 use Rattle.refusal.specs.Rows as Rows
 use Rattle.refusal.specs.Refused.{at}
-use Rattle.refusal.specs.First.{first}
-use Rattle.checks.specs.Checks.{observation_refused}
-use Rattle.refusal.proofs.Scans.{Scanned, begins, ends, goes_on, leaves, is_good, is_bad, bad, row_refuses}
+use Rattle.refusal.proofs.Scans.{begins, ends, goes_on, leaves, is_good, is_bad, bad, row_refuses}
 use mathlib.Core.Bool.{not}
 use Rattle.checks.proofs.rows.view_refused.Goals as goal
 
@@ -16,14 +12,12 @@ loop-i-init c = begins _ _
 
 pub returns-then-not-all_finite : goal.returns-then-not-all_finite
 returns-then-not-all_finite c =
-    let m = c in
-    let e = m.all_finite.ensures ∙ ap all_finite m.pair_at-observation.ensures in
-    c.at.ensures ∙ sym (leaves _ _ _ _ m.loop-i.invariant (omega arith) (is_bad _ _ _ e (row_refuses Rows.observation _ _ refl) (ap not c.if-not-all_finite.true)) ∙ bad _ _ _ e (ap not c.if-not-all_finite.true))
+    let e = c.all_finite.ensures ∙ ap all_finite c.pair_at-observation.ensures in
+    c.at.ensures ∙ sym (leaves _ _ _ _ c.loop-i.invariant (omega arith) (is_bad _ _ _ e (row_refuses Rows.observation _ _ refl) (ap not c.if-not-all_finite.true)) ∙ bad _ _ _ e (ap not c.if-not-all_finite.true))
 
 pub loop-i-preserved : goal.loop-i-preserved
 loop-i-preserved c =
-    let m = c in
-    goes_on _ _ _ _ m.loop-i.invariant (omega arith) (is_good (at Rows.observation _ _) _ _ (m.all_finite.ensures ∙ ap all_finite m.pair_at-observation.ensures) (ap not c.if-not-all_finite.false))
+    goes_on _ _ _ _ c.loop-i.invariant (omega arith) (is_good (at Rows.observation _ _) _ _ (c.all_finite.ensures ∙ ap all_finite c.pair_at-observation.ensures) (ap not c.if-not-all_finite.false))
 
 pub returns : goal.returns
 returns c = c.none.ensures ∙ sym (ends _ _ _ _ c.loop-i.invariant (omega arith))

@@ -1,10 +1,9 @@
+-- `linearization::linearize::linearize_point` meets its contract. Assumes nothing.
 use Rattle.linearization.proofs.Laws.{not_made, made}
-use borrow.Author.Rules.{rules}
 use mathlib.Core.Path.{ap}
 use mathlib.Core.Bool.{not}
 use Rattle.linearization.proofs.linearize.linearize_point.Goals as goal
 
--- `linearization::linearize::linearize_point` meets its contract. Assumes nothing.
 pub returns-then-not-is_none : goal.returns-then-not-is_none
 returns-then-not-is_none c = not_made _ _ _ _ _ _ c.linearize_views-views.ensures c.is_none.ensures _ (ap not c.if-not-is_none.true) c.not_made.ensures
 

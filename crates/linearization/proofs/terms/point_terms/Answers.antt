@@ -1,17 +1,14 @@
+-- `linearization::terms::point_terms` meets its contract. Assumes nothing.
 use Rattle.linearization.specs.Linearize.{no_block, point_terms}
 use Rattle.linearization.proofs.Laws.{no_terms, some_terms}
 use mathlib.Core.Path.{refl}
-use borrow.Author.Rules.{rules}
 use mathlib.Core.Path.{ap}
 use mathlib.Core.Bool.{not}
 use Rattle.linearization.proofs.terms.point_terms.Goals as goal
 
--- `linearization::terms::point_terms` meets its contract. Assumes nothing.
 pub returns-then-not-is_none : goal.returns-then-not-is_none
 unfolding no_block point_terms
 returns-then-not-is_none c = no_terms _ _ _ _ _ _ c.linearize_views-views.ensures c.is_none.ensures _ (ap not c.if-not-is_none.true) refl
 
 pub returns : goal.returns
-returns c =
-    let n = c in
-    some_terms _ _ _ _ _ _ n.linearize_views-views.ensures n.is_none.ensures _ (ap not n.if-not-is_none.false) c.terms.ensures
+returns c = some_terms _ _ _ _ _ _ c.linearize_views-views.ensures c.is_none.ensures _ (ap not c.if-not-is_none.false) c.terms.ensures

@@ -1,5 +1,4 @@
 use mathlib.Core.Path.{sym, ◌∙◌}
-use borrow.Author.Rules.{rules}
 use lib.Ieee.{binary64}
 use Rattle.number.proofs.Specials.{zero_by_zero, nan_of_bits, no_nan_bits}
 use Rattle.number.proofs.bits.from_bits.Goals as goal

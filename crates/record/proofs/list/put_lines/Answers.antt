@@ -15,14 +15,9 @@ use Rattle.record.proofs.list.put_lines.Goals as goal
 pub returns : goal.returns
 unfolding lines_of
 returns c =
-    let sum = c in
-    let points = sum in
-    let run = points in
-    let fields = run in
-    let start = fields in
-    let r = start.args.«record».now in
-    let e = ap (λ (n : ℕ). run_line n start.args.damping) fields.point_fields-n.ensures ∙ ap (λ (d : Float). run_line (point_fields r) d) start.requires.2 in
-    let out = start.args.out.now in
+    let r = c.args.«record».now in
+    let e = ap (λ (n : ℕ). run_line n c.args.damping) c.point_fields-n.ensures ∙ ap (λ (d : Float). run_line (point_fields r) d) c.requires.2 in
+    let out = c.args.out.now in
     let head = run_line (point_fields r) (damping r) in
     let body = point_lines (Run.run r) (point_fields r) in
-    put_put (head ++ body) _ 0 out _ _ _ _ (put_put head body 0 out _ _ _ _ (put_same _ head 0 out _ _ e run.put_run-points_at.ensures) points.put_points-sum_at.ensures) sum.put_sum.ensures
+    put_put (head ++ body) _ 0 out _ _ _ _ (put_put head body 0 out _ _ _ _ (put_same _ head 0 out _ _ e c.put_run-points_at.ensures) c.put_points-sum_at.ensures) c.put_sum.ensures

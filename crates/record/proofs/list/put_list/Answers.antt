@@ -7,13 +7,10 @@ use Rattle.record.proofs.list.put_list.Goals as goal
 
 pub returns-then-not-is_none : goal.returns-then-not-is_none
 returns-then-not-is_none c =
-    let test = c in
-    put_same _ _ _ _ _ _ (form_refused _ _ test.refused-refusal.ensures _ test.is_none.ensures (ap not test.if-not-is_none.true)) c.put_refused.ensures
+    put_same _ _ _ _ _ _ (form_refused _ _ c.refused-refusal.ensures _ c.is_none.ensures (ap not c.if-not-is_none.true)) c.put_refused.ensures
 
 pub put_formed-requires : goal.put_formed-requires
-put_formed-requires c =
-    let test = c in
-    form_passed _ _ test.refused-refusal.ensures _ test.is_none.ensures (ap not test.if-not-is_none.false)
+put_formed-requires c = form_passed _ _ c.refused-refusal.ensures _ c.is_none.ensures (ap not c.if-not-is_none.false)
 
 pub returns : goal.returns
 returns c = c.put_formed.ensures

@@ -16,18 +16,15 @@ loop-i-init c = (omega arith, c.point_fields-i-end.ensures, refl, no_lines _ _ _
 
 pub loop-i-preserved : goal.loop-i-preserved
 loop-i-preserved c =
-    let l = c in
-    let m = c in
-    let k : length m.put_point-at.new.out ≡ length l.loop-i.out = search rules in
-    let read = l.requires in
-    (omega arith, l.loop-i.invariant.1, k ∙ l.loop-i.invariant.2, next_line _ l.loop-i.i (omega arith) _ _ _ _ _ _ l.loop-i.invariant.3 _ read.1 _ m.block_at.ensures _ read.2 _ m.letter-letter.ensures m.put_point-at.ensures)
+    let k : length c.put_point-at.new.out ≡ length c.loop-i.out = search rules in
+    let read = c.requires in
+    (omega arith, c.loop-i.invariant.1, k ∙ c.loop-i.invariant.2, next_line _ c.loop-i.i (omega arith) _ _ _ _ _ _ c.loop-i.invariant.3 _ read.1 _ c.block_at.ensures _ read.2 _ c.letter-letter.ensures c.put_point-at.ensures)
 
 pub shape_of-out : goal.shape_of-out
 shape_of-out c = c.loop-i.invariant.2
 
 pub returns : goal.returns
 returns c =
-    let l = c in
-    let r = l.args.«record».now in
-    let n : l.loop-i.i ≡ point_fields r = omega arith in
-    put_same _ _ _ _ _ _ (ap (λ (k : ℕ). point_lines (run r) k) n) l.loop-i.invariant.3
+    let r = c.args.«record».now in
+    let n : c.loop-i.i ≡ point_fields r = omega arith in
+    put_same _ _ _ _ _ _ (ap (λ (k : ℕ). point_lines (run r) k) n) c.loop-i.invariant.3

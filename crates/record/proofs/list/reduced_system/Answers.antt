@@ -27,10 +27,8 @@ slice_bounds-reduced_system-end-4 c = sym (length-take-le _ _ (search rules))
 
 pub returns : goal.returns
 returns c =
-    let columns = c in
-    let fields = columns in
-    let pre = fields.requires in
-    let e = fields.point_fields-n.ensures in
+    let pre = c.requires in
+    let e = c.point_fields-n.ensures in
     let e₂ = ap (λ (k : ℕ). 2 * k) e in
-    reduced_is fields.args.«record».now _ _ _ _ _ _ _ _ _ _ _ columns.column-points.ensures (ap (λ (k : ℕ). 3 * k) e) columns.column-view1.ensures
-    e₂ columns.column-view2.ensures e₂ columns.column-deviations.ensures e pre.1 pre.2 c.reduced_system.ensures
+    reduced_is c.args.«record».now _ _ _ _ _ _ _ _ _ _ _ c.column-points.ensures (ap (λ (k : ℕ). 3 * k) e) c.column-view1.ensures
+    e₂ c.column-view2.ensures e₂ c.column-deviations.ensures e pre.1 pre.2 c.reduced_system.ensures

@@ -40,15 +40,12 @@ overflow_cast-first c = let q : (c.loop-j.j / c.args.each < point_fields c.args.
 
 pub loop-j-preserved : goal.loop-j-preserved
 loop-j-preserved c =
-    let l = c in
-    let a = l.args in
+    let a = c.args in
     let f = column a.«record».now a.first a.each in
-    let h : l.loop-j.j < 1536 = omega arith in (
+    let h : c.loop-j.j < 1536 = omega arith in (
       omega arith,
-      fill_next _ l.loop-j.numbers f l.loop-j.j _ l.loop-j.invariant.1 (c.number_at.ensures ∙ sym (place a.«record».now a.first a.each l.loop-j.j _ refl)) h,
+      fill_next _ c.loop-j.numbers f c.loop-j.j _ c.loop-j.invariant.1 (c.number_at.ensures ∙ sym (place a.«record».now a.first a.each c.loop-j.j _ refl)) h,
     )
 
 pub returns : goal.returns
-returns c =
-    let l = c in
-    front_filled _ _ _ l.loop-j.j l.args.count l.loop-j.invariant.1 (omega arith)
+returns c = front_filled _ _ _ c.loop-j.j c.args.count c.loop-j.invariant.1 (omega arith)

@@ -1,13 +1,8 @@
-use mathlib.Core.Path.{sym, ap, ◌∙◌, ◌≡◌}
-use Rattle.refusal.specs.First.{first}
+use mathlib.Core.Path.{sym, ap, ◌∙◌}
 use Rattle.refusal.specs.Refused.{is_none}
-use Rattle.refusal.proofs.Scans.{Scanned, begins, ends, goes_on, leaves}
+use Rattle.refusal.proofs.Scans.{begins, ends, goes_on, leaves}
 use borrow.Author.Tests.{not-true, not-false}
-use Rattle.fields.specs.Fields.{point_at, point_fields}
-use Rattle.record_form.specs.Form.{field_refused}
-use Prim.Native.Nat.{◌-◌}
 use native.Mathlib.Omega.{arith}
-use borrow.Author.Rules.{rules}
 use mathlib.Core.Bool.{not}
 use Rattle.record_form.proofs.form.points_refused.Goals as goal
 
@@ -16,15 +11,13 @@ loop-i-init c = (c.point_fields-i-end.ensures, begins _ _)
 
 pub returns-then-not-is_none : goal.returns-then-not-is_none
 returns-then-not-is_none c =
-    let l = c in
     let v = c.field_refused-refusal.ensures in
-    v ∙ sym (leaves _ _ _ _ l.loop-i.invariant.1 (omega arith) (ap is_none (sym v) ∙ sym c.is_none.ensures ∙ not-true _ (ap not c.if-not-is_none.true)))
+    v ∙ sym (leaves _ _ _ _ c.loop-i.invariant.1 (omega arith) (ap is_none (sym v) ∙ sym c.is_none.ensures ∙ not-true _ (ap not c.if-not-is_none.true)))
 
 pub loop-i-preserved : goal.loop-i-preserved
 loop-i-preserved c =
-    let l = c in
     let v = c.field_refused-refusal.ensures in
-    (l.loop-i.invariant.0, goes_on _ _ _ _ l.loop-i.invariant.1 (omega arith) (ap is_none (sym v) ∙ sym c.is_none.ensures ∙ not-false _ (ap not c.if-not-is_none.false)))
+    (c.loop-i.invariant.0, goes_on _ _ _ _ c.loop-i.invariant.1 (omega arith) (ap is_none (sym v) ∙ sym c.is_none.ensures ∙ not-false _ (ap not c.if-not-is_none.false)))
 
 pub returns : goal.returns
 returns c = c.none.ensures ∙ sym (ends _ _ _ _ c.loop-i.invariant.1 (omega arith))

@@ -1,14 +1,9 @@
-use mathlib.Core.Path.{sym, ap, ◌∙◌, ◌≡◌}
+use mathlib.Core.Path.{◌≡◌}
 use Rattle.refusal.specs.First.{first}
-use Rattle.refusal.specs.Refused.{is_none}
-use Rattle.refusal.proofs.Scans.{Scanned, begins, ends, goes_on, leaves}
-use borrow.Author.Tests.{not-true, not-false}
+use Rattle.refusal.proofs.Scans.{Scanned}
 use Rattle.fields.specs.Fields.{point_at, point_fields}
 use Rattle.record_form.specs.Form.{field_refused}
 use Prim.Native.Nat.{◌-◌}
-use native.Mathlib.Omega.{arith}
-use borrow.Author.Rules.{rules}
-use mathlib.Core.Bool.{not}
 use Rattle.record_form.proofs.form.points_refused.Given as goal
 
 abbrev pub invariant-loop-i : goal.invariant-loop-i

@@ -1,4 +1,3 @@
-use mathlib.Core.Bool.{Bool}
 use lib.Dec.{leb}
 use lib.ListN.{length}
 use Rattle.refusal.specs.Rows as Rows
@@ -7,7 +6,6 @@ use Rattle.refusal.proofs.Scans.{stop, pass, stop_unless, pass_unless}
 use Rattle.record_form.specs.Form.{max_record, refused}
 use borrow.Author.Tests.{lt-leb, le-leb}
 use mathlib.Core.Path.{refl}
-use borrow.Author.Rules.{rules}
 use mathlib.Core.Path.{ap}
 use mathlib.Core.Bool.{not}
 use Rattle.record_form.proofs.form.refused.Goals as goal
@@ -28,6 +26,5 @@ points_refused-requires c = c.if-not-record.false
 pub returns : goal.returns
 unfolding refused
 returns c =
-    let head = c in
     pass_unless (of Rows.record_too_long) _ _ (leb (length c.args.record.now) max_record) _ refl (ap not (le-leb _ _ c.if-not-record.false))
-    (pass _ _ _ _ head.header_refused-header.ensures head.is_none.ensures (ap not head.if-not-is_none.false) _ c.points_refused.ensures)
+    (pass _ _ _ _ c.header_refused-header.ensures c.is_none.ensures (ap not c.if-not-is_none.false) _ c.points_refused.ensures)

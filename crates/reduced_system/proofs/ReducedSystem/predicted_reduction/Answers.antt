@@ -1,10 +1,9 @@
+-- `reduced_system::ReducedSystem::predicted_reduction` meets its contract. Assumes nothing.
 use Rattle.reduced_system.proofs.Finished.{predicts_not, predicts}
-use borrow.Author.Rules.{rules}
 use mathlib.Core.Path.{ap}
 use mathlib.Core.Bool.{not}
 use Rattle.reduced_system.proofs.ReducedSystem.predicted_reduction.Goals as goal
 
--- `reduced_system::ReducedSystem::predicted_reduction` meets its contract. Assumes nothing.
 pub returns-then-not-good_damping : goal.returns-then-not-good_damping
 returns-then-not-good_damping c = predicts_not _ _ _ _ _ c.good_damping.ensures _ (ap not c.if-not-good_damping.true) c.of.ensures
 

@@ -1,9 +1,8 @@
+-- `reduced_system::ReducedSystem::reduction_of` meets its contract. Assumes nothing.
 use mathlib.Core.Path.{refl}
 use Rattle.reduced_system.specs.Model.{reduction_of}
-use borrow.Author.Rules.{rules}
 use Rattle.reduced_system.proofs.ReducedSystem.reduction_of.Goals as goal
 
--- `reduced_system::ReducedSystem::reduction_of` meets its contract. Assumes nothing.
 pub returns : goal.returns
 unfolding reduction_of
 returns c = rw (c.pose_damping_norm.ensures, c.quadratic.ensures, c.dot5.ensures) refl
