@@ -1,5 +1,5 @@
 //! Says where the static library lies: in the folder that PIXEL_STEP_LIB_DIR
-//! names, or in target/staticlib at the repository's root.
+//! names, or in crates/pixel_step/out at the repository's root.
 
 use std::env;
 use std::path::PathBuf;
@@ -13,7 +13,7 @@ fn main() {
     println!("cargo::rerun-if-changed={}", library.display());
     if !library.is_file() {
         println!(
-            "cargo::error={} is missing: run `rt staticlib pixel_step` at the repository's root, \
+            "cargo::error={} is missing: run `rt lib` in crates/pixel_step, \
              or set {VARIABLE} to the folder that holds libpixel_step.a",
             library.display()
         );
@@ -26,6 +26,6 @@ fn folder() -> PathBuf {
     let root = PathBuf::from(env::var_os("CARGO_MANIFEST_DIR").expect("set by cargo"));
     match env::var_os(VARIABLE) {
         Some(folder) if !folder.is_empty() => root.join(folder),
-        _ => root.join("../../target/staticlib"),
+        _ => root.join("../../crates/pixel_step/out"),
     }
 }
