@@ -1,11 +1,9 @@
 -- "makes checks 3 to 9" (document 01, "Run record and its list"): the run of a record never meets row 1 or 2. Assumes nothing.
 use mathlib.Core.Path.{◌≡◌, refl}
-use mathlib.Core.Bool.{◌&&◌}
 use mathlib.Core.List.{List}
 use Prim.Native.Nat.{ℕ, ◌*◌}
 use native.Mathlib.Omega.{arith}
 use borrow.Author.Tests.{eq-eqb, le-leb}
-use lib.Dec.{eqb}
 use Rattle.number.proofs.Fill.{length_tabulate}
 use Rattle.refusal.specs.Refused.{is_none}
 use Rattle.checks.specs.Checks.{max_points, values_refused, refused}

@@ -1,6 +1,5 @@
 -- `assembly::block_of` meets its contract. Assumes nothing.
 use Rattle.assembly.specs.Assembly.{block_of}
-use borrow.Author.Rules.{rules}
 use Rattle.assembly.proofs.block_of.Goals as goal
 
 pub returns : goal.returns

@@ -1,11 +1,6 @@
-use lib.ListN.{length}
-use Rattle.correspondences.specs.Problem.{problem}
-use Rattle.assembly.specs.Assembly.{system_to}
 use Rattle.assembly.proofs.Systems.{system_none, system_next, system_all}
-use mathlib.Core.Path.{◌≡◌, refl}
-use Prim.Native.Nat.{◌-◌, ◌≤◌}
+use mathlib.Core.Path.{refl}
 use native.Mathlib.Omega.{arith}
-use borrow.Author.Rules.{rules}
 use Rattle.assembly.proofs.damped_system.Goals as goal
 
 pub loop-i-init : goal.loop-i-init

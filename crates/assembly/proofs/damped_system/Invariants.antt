@@ -1,11 +1,8 @@
 use lib.ListN.{length}
 use Rattle.correspondences.specs.Problem.{problem}
 use Rattle.assembly.specs.Assembly.{system_to}
-use Rattle.assembly.proofs.Systems.{system_none, system_next, system_all}
-use mathlib.Core.Path.{◌≡◌, refl}
+use mathlib.Core.Path.{◌≡◌}
 use Prim.Native.Nat.{◌-◌, ◌≤◌}
-use native.Mathlib.Omega.{arith}
-use borrow.Author.Rules.{rules}
 use Rattle.assembly.proofs.damped_system.Given as goal
 
 abbrev pub invariant-loop-i : goal.invariant-loop-i

@@ -2,7 +2,6 @@
 use Rattle.correspondences.specs.Problem.{problem}
 use Rattle.checks.proofs.Passed.{checked}
 use Rattle.assembly.proofs.Systems.{passed, not_reduced, reduces}
-use borrow.Author.Rules.{rules}
 use mathlib.Core.Path.{ap}
 use mathlib.Core.Bool.{not}
 use Rattle.assembly.proofs.reduced_system.Goals as goal

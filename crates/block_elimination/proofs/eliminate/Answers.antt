@@ -1,6 +1,5 @@
 -- `block_elimination::eliminate` meets its contract. Assumes nothing.
 use Rattle.block_elimination.proofs.Eliminating.{eliminates, eliminates_not}
-use borrow.Author.Rules.{rules}
 use Rattle.block_elimination.proofs.eliminate.Goals as goal
 
 pub returns-then-is_none : goal.returns-then-is_none

@@ -1,6 +1,5 @@
 -- `block_elimination::eliminated` meets its contract. Assumes nothing.
 use Rattle.block_elimination.proofs.Eliminating.{eliminated_at_zero, eliminated_elsewhere}
-use borrow.Author.Rules.{rules}
 use Rattle.block_elimination.proofs.eliminated.Goals as goal
 
 pub returns-then-damping : goal.returns-then-damping

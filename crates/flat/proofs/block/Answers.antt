@@ -1,7 +1,6 @@
 -- `flat::block` meets its contract. Assumes nothing.
 use mathlib.Core.Path.{refl}
 use Rattle.flat.specs.Flat.{block}
-use borrow.Author.Rules.{rules}
 use Rattle.flat.proofs.block.Goals as goal
 
 pub returns : goal.returns

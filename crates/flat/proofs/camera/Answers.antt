@@ -3,7 +3,6 @@ use mathlib.Core.Path.{ap}
 use mathlib.Core.List.{List}
 use lib.Ieee.{Float}
 use Rattle.flat.specs.Flat.{camera}
-use borrow.Author.Rules.{rules}
 use Rattle.flat.proofs.camera.Goals as goal
 
 pub returns : goal.returns

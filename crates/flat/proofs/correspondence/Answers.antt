@@ -1,7 +1,6 @@
 -- `flat::correspondence` meets its contract. Assumes nothing.
 use mathlib.Core.Path.{refl}
 use Rattle.flat.specs.Flat.{correspondence}
-use borrow.Author.Rules.{rules}
 use Rattle.flat.proofs.correspondence.Goals as goal
 
 pub returns : goal.returns

@@ -1,7 +1,6 @@
 -- `flat::rig` meets its contract. Assumes nothing.
 use mathlib.Core.Path.{refl}
 use Rattle.flat.specs.Flat.{rig}
-use borrow.Author.Rules.{rules}
 use Rattle.flat.proofs.rig.Goals as goal
 
 pub returns : goal.returns

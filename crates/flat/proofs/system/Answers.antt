@@ -1,7 +1,6 @@
 -- `flat::system` meets its contract. Assumes nothing.
 use mathlib.Core.Path.{refl}
 use Rattle.flat.specs.Flat.{system}
-use borrow.Author.Rules.{rules}
 use Rattle.flat.proofs.system.Goals as goal
 
 pub returns : goal.returns

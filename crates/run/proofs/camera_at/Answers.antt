@@ -1,6 +1,5 @@
 -- `run::camera_at` meets its contract. Assumes nothing.
 use Rattle.run.proofs.Runs.{camera_is}
-use native.Mathlib.Omega.{arith}
 use Rattle.run.proofs.camera_at.Goals as goal
 
 pub returns : goal.returns

@@ -1,6 +1,5 @@
 -- `run::correspondence_at` meets its contract. Assumes nothing.
 use Rattle.run.proofs.Runs.{correspondence_is}
-use native.Mathlib.Omega.{arith}
 use Rattle.run.proofs.correspondence_at.Goals as goal
 
 pub returns : goal.returns

@@ -3,8 +3,6 @@ use Rattle.run.specs.Run.{half, word, number_at}
 use lib.Ieee.{binary64, of_bits}
 use Prim.Native.Nat.{ℕ, ◌+◌, ◌*◌}
 use mathlib.Core.Path.{ap, ◌∙◌}
-use native.Mathlib.Omega.{arith}
-use borrow.Author.Rules.{rules}
 use Rattle.run.proofs.number_from.Goals as goal
 
 pub returns : goal.returns

@@ -1,8 +1,8 @@
-use mathlib.Core.Path.{◌∙◌, ◌≡◌, refl}
-use lib.ListN.{length, length-set}
-use Rattle.number.proofs.Fill.{filled, fill_next, fill_all}
+use mathlib.Core.Path.{◌∙◌, refl}
+use lib.ListN.{length-set}
+use Rattle.number.proofs.Fill.{fill_next, fill_all}
 use Rattle.run.specs.Run.{number_at}
-use Prim.Native.Nat.{◌+◌, ◌*◌, ◌-◌, ◌≤◌}
+use Prim.Native.Nat.{◌+◌, ◌*◌}
 use native.Mathlib.Omega.{arith}
 use Rattle.run.proofs.numbers_at.Goals as goal
 

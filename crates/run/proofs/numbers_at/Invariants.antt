@@ -1,9 +1,8 @@
-use mathlib.Core.Path.{◌∙◌, ◌≡◌, refl}
-use lib.ListN.{length, length-set}
-use Rattle.number.proofs.Fill.{filled, fill_next, fill_all}
+use mathlib.Core.Path.{◌≡◌}
+use lib.ListN.{length}
+use Rattle.number.proofs.Fill.{filled}
 use Rattle.run.specs.Run.{number_at}
 use Prim.Native.Nat.{◌+◌, ◌*◌, ◌-◌, ◌≤◌}
-use native.Mathlib.Omega.{arith}
 use Rattle.run.proofs.numbers_at.Given as goal
 
 abbrev pub invariant-loop-j : goal.invariant-loop-j

@@ -1,6 +1,5 @@
 -- `run::rig_of` meets its contract. Assumes nothing.
 use Rattle.run.proofs.Runs.{rig_is}
-use borrow.Author.Rules.{rules}
 use Rattle.run.proofs.rig_of.Goals as goal
 
 pub returns : goal.returns

@@ -1,6 +1,5 @@
 -- `run::three_at` meets its contract. Assumes nothing.
 use Rattle.run.proofs.Runs.{three_are}
-use native.Mathlib.Omega.{arith}
 use Rattle.run.proofs.three_at.Goals as goal
 
 pub returns : goal.returns

@@ -1,6 +1,5 @@
 -- `run::two_at` meets its contract. Assumes nothing.
 use Rattle.run.proofs.Runs.{two_are}
-use native.Mathlib.Omega.{arith}
 use Rattle.run.proofs.two_at.Goals as goal
 
 pub returns : goal.returns

@@ -1,7 +1,6 @@
 -- `schur::add` meets its contract. Assumes nothing.
 use borrow.Author.Tests.{le-leb, lt-leb, lt-ltb, le-ltb}
 use Rattle.list_of_adds.proofs.Adding.{below, at_most, adds_no_damping, adds_no_weak, adds_no_more, adds_block}
-use borrow.Author.Rules.{rules}
 use mathlib.Core.Path.{ap}
 use mathlib.Core.Bool.{not}
 use Rattle.schur.proofs.add.Goals as goal

@@ -1,7 +1,5 @@
 -- `schur::raised` meets its contract. Assumes nothing.
 use native.Mathlib.Numerals.{add-one}
-use native.Mathlib.Omega.{arith}
-use borrow.Author.Rules.{rules}
 use Rattle.schur.proofs.raised.Goals as goal
 
 pub returns-then-by_one : goal.returns-then-by_one

@@ -1,7 +1,6 @@
 -- `schur::taken` meets its contract. Assumes nothing.
 use Rattle.list_of_adds.specs.System.{taken}
 use mathlib.Core.Path.{refl}
-use borrow.Author.Rules.{rules}
 use Rattle.schur.proofs.taken.Goals as goal
 
 pub returns : goal.returns

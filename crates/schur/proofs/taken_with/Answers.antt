@@ -1,7 +1,5 @@
 -- `schur::taken_with` meets its contract. Assumes nothing.
 use Rattle.list_of_adds.proofs.Adding.{takes_with}
-use native.Mathlib.Omega.{arith}
-use borrow.Author.Rules.{rules}
 use Rattle.schur.proofs.taken_with.Goals as goal
 
 pub returns : goal.returns

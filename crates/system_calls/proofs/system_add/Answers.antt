@@ -8,7 +8,6 @@ use Rattle.flat.specs.Flat.{system}
 use Rattle.system_calls.specs.Calls.{add}
 use Rattle.answers.proofs.Laws.{three_fit}
 use Rattle.system_calls.proofs.Laws.{too_short_system, changes}
-use borrow.Author.Rules.{rules}
 use mathlib.Core.Bool.{not}
 use Rattle.system_calls.proofs.system_add.Goals as goal
 

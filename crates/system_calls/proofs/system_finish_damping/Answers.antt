@@ -6,7 +6,6 @@ use Rattle.reduced_system.specs.declared.ReducedSystem.{ReducedSystem}
 use Rattle.system_calls.specs.Calls.{finish_damping}
 use Rattle.answers.proofs.Laws.{two_fit}
 use Rattle.system_calls.proofs.Laws.{too_short_system, changes}
-use borrow.Author.Rules.{rules}
 use mathlib.Core.Bool.{not}
 use Rattle.system_calls.proofs.system_finish_damping.Goals as goal
 

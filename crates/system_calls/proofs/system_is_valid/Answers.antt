@@ -10,7 +10,6 @@ use Rattle.answers.specs.Answers.{code}
 use Rattle.system_calls.specs.Calls.{is_valid}
 use Rattle.flat_numbers.specs.FlatNumbers.{flag}
 use Rattle.answers.proofs.Laws.{too_short, answers_none, three_fit, one_set}
-use borrow.Author.Rules.{rules}
 use mathlib.Core.Bool.{not}
 use Rattle.system_calls.proofs.system_is_valid.Goals as goal
 

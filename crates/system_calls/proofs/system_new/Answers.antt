@@ -3,7 +3,6 @@ use lib.ListN.{length}
 use Rattle.system_calls.specs.Calls.{new_system}
 use Rattle.answers.proofs.Laws.{two_fit}
 use Rattle.system_calls.proofs.Laws.{too_short_system, changes}
-use borrow.Author.Rules.{rules}
 use mathlib.Core.Path.{ap}
 use mathlib.Core.Bool.{not}
 use Rattle.system_calls.proofs.system_new.Goals as goal

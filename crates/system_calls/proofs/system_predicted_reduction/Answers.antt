@@ -9,7 +9,6 @@ use Rattle.flat.specs.Flat.{system}
 use Rattle.system_calls.specs.Calls.{predicted_reduction}
 use Rattle.slices.proofs.Laws.{whole}
 use Rattle.answers.proofs.Laws.{too_short, answers, four_fit}
-use borrow.Author.Rules.{rules}
 use mathlib.Core.Bool.{not}
 use Rattle.system_calls.proofs.system_predicted_reduction.Goals as goal
 

@@ -6,7 +6,6 @@ use Rattle.reduced_system.specs.Model as Model
 use Rattle.reduced_system.specs.declared.ReducedSystem.{ReducedSystem}
 use Rattle.system_calls.specs.Calls.{gradient_inf_norm}
 use Rattle.answers.proofs.Laws.{too_short, answers, three_fit}
-use borrow.Author.Rules.{rules}
 use mathlib.Core.Bool.{not}
 use Rattle.system_calls.proofs.system_scaled_gradient_inf_norm.Goals as goal
 

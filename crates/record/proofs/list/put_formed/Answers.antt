@@ -2,8 +2,6 @@
 use Rattle.record_form.proofs.Forms.{formed}
 use Rattle.text.proofs.Puts.{put_same}
 use Rattle.record.proofs.Listed.{run_refused, run_listed}
-use native.Mathlib.Omega.{arith}
-use borrow.Author.Rules.{rules}
 use mathlib.Core.Path.{ap}
 use mathlib.Core.Bool.{not}
 use Rattle.record.proofs.list.put_formed.Goals as goal

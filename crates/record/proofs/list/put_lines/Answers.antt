@@ -8,8 +8,6 @@ use Rattle.run.specs.Run as Run
 use Rattle.run.specs.Run.{damping}
 use Rattle.lines.specs.Lines.{run_line}
 use Rattle.record.specs.Lists.{point_lines, lines_of}
-use native.Mathlib.Omega.{arith}
-use borrow.Author.Rules.{rules}
 use Rattle.record.proofs.list.put_lines.Goals as goal
 
 pub returns : goal.returns

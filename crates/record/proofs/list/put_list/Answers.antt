@@ -1,6 +1,5 @@
 use Rattle.text.proofs.Puts.{put_same}
 use Rattle.record.proofs.Listed.{form_refused, form_passed}
-use borrow.Author.Rules.{rules}
 use mathlib.Core.Path.{ap}
 use mathlib.Core.Bool.{not}
 use Rattle.record.proofs.list.put_list.Goals as goal

@@ -2,11 +2,10 @@ use Rattle.text.proofs.Puts.{put_same}
 use Rattle.fields.specs.Fields.{point_fields}
 use Rattle.run.specs.Run.{run}
 use Rattle.record.specs.Lists.{point_lines}
-use Rattle.text.specs.Text.{Put}
 use Rattle.record.proofs.Runs.{next_line, no_lines}
 use lib.ListN.{length}
 use mathlib.Core.Path.{ap, ◌∙◌, ◌≡◌, refl}
-use Prim.Native.Nat.{ℕ, ◌-◌, ◌≤◌}
+use Prim.Native.Nat.{ℕ}
 use native.Mathlib.Omega.{arith}
 use borrow.Author.Rules.{rules}
 use Rattle.record.proofs.list.put_points.Goals as goal

@@ -2,8 +2,6 @@
 use mathlib.Core.Path.{ap, ◌∙◌}
 use Rattle.views.specs.declared.Correspondence.{Correspondence}
 use Rattle.assembly.specs.Assembly.{block_of}
-use native.Mathlib.Omega.{arith}
-use borrow.Author.Rules.{rules}
 use Rattle.record.proofs.points.block_at.Goals as goal
 
 pub returns : goal.returns

@@ -1,11 +1,10 @@
-use mathlib.Core.Path.{◌≡◌, refl, sym, ◌∙◌}
-use Rattle.number.proofs.Fill.{filled, fill_next}
+use mathlib.Core.Path.{refl, sym, ◌∙◌}
+use Rattle.number.proofs.Fill.{fill_next}
 use Rattle.fields.specs.Fields.{point_fields}
 use Rattle.run.specs.Run.{column}
 use Rattle.record.proofs.Runs.{quotient, place, front_filled}
-use Prim.Native.Nat.{◌/◌, ◌%◌, ◌-◌, ◌≤◌, ◌<◌}
+use Prim.Native.Nat.{◌/◌, ◌%◌, ◌<◌}
 use native.Mathlib.Omega.{arith}
-use borrow.Author.Rules.{rules}
 use Rattle.record.proofs.points.column.Goals as goal
 
 pub loop-j-init : goal.loop-j-init

@@ -1,11 +1,7 @@
-use mathlib.Core.Path.{◌≡◌, refl, sym, ◌∙◌}
-use Rattle.number.proofs.Fill.{filled, fill_next}
-use Rattle.fields.specs.Fields.{point_fields}
+use mathlib.Core.Path.{◌≡◌}
+use Rattle.number.proofs.Fill.{filled}
 use Rattle.run.specs.Run.{column}
-use Rattle.record.proofs.Runs.{quotient, place, front_filled}
-use Prim.Native.Nat.{◌/◌, ◌%◌, ◌-◌, ◌≤◌, ◌<◌}
-use native.Mathlib.Omega.{arith}
-use borrow.Author.Rules.{rules}
+use Prim.Native.Nat.{◌-◌, ◌≤◌}
 use Rattle.record.proofs.points.column.Given as goal
 
 abbrev pub invariant-loop-j : goal.invariant-loop-j
