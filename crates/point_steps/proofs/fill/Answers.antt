@@ -2,13 +2,11 @@ use lib.ListN.{length, set}
 use lib.Seq.{lt-length-set}
 use Rattle.point_step.specs.declared.PointStep.{PointStep}
 use Rattle.correspondences.specs.Problem.{problem}
-use Rattle.point_steps.specs.PointSteps.{sums_to}
-use Rattle.point_steps.proofs.Passes.{stepped_at, Filled, room_none, room_length, room_next, room_full, sums_none, squared_next, norm_next, both_sums}
+use Rattle.point_steps.proofs.Passes.{stepped_at, room_none, room_length, room_next, room_full, sums_none, squared_next, norm_next, both_sums}
 use Rattle.point_steps.specs.declared.Sums.{Sums}
 use mathlib.Core.Path.{sym, ap, ◌∙◌, ◌≡◌, refl}
-use Prim.Native.Nat.{◌+◌, ◌*◌, ◌-◌, ◌≤◌, ◌<◌}
+use Prim.Native.Nat.{◌+◌, ◌*◌, ◌<◌}
 use native.Mathlib.Omega.{arith}
-use borrow.Author.Rules.{rules}
 use Rattle.point_steps.proofs.fill.Goals as goal
 
 pub loop-i-init : goal.loop-i-init

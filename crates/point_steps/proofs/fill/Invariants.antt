@@ -1,14 +1,9 @@
-use lib.ListN.{length, set}
-use lib.Seq.{lt-length-set}
-use Rattle.point_step.specs.declared.PointStep.{PointStep}
+use lib.ListN.{length}
 use Rattle.correspondences.specs.Problem.{problem}
 use Rattle.point_steps.specs.PointSteps.{sums_to}
-use Rattle.point_steps.proofs.Passes.{stepped_at, Filled, room_none, room_length, room_next, room_full, sums_none, squared_next, norm_next, both_sums}
-use Rattle.point_steps.specs.declared.Sums.{Sums}
-use mathlib.Core.Path.{sym, ap, ◌∙◌, ◌≡◌, refl}
-use Prim.Native.Nat.{◌+◌, ◌*◌, ◌-◌, ◌≤◌, ◌<◌}
-use native.Mathlib.Omega.{arith}
-use borrow.Author.Rules.{rules}
+use Rattle.point_steps.proofs.Passes.{Filled}
+use mathlib.Core.Path.{◌≡◌}
+use Prim.Native.Nat.{◌-◌, ◌≤◌}
 use Rattle.point_steps.proofs.fill.Given as goal
 
 abbrev pub invariant-loop-i : goal.invariant-loop-i

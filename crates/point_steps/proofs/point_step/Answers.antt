@@ -2,7 +2,6 @@
 use Rattle.point_step.specs.PointStep.{point_step}
 use Rattle.point_steps.specs.PointSteps.{point_step_of}
 use mathlib.Core.Path.{refl}
-use borrow.Author.Rules.{rules}
 use Rattle.point_steps.proofs.point_step.Goals as goal
 
 pub returns : goal.returns

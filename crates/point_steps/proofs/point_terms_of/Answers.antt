@@ -1,6 +1,5 @@
 -- `point_steps::point_terms_of` meets its contract. Assumes nothing.
 use Rattle.assembly.specs.Assembly.{block_of}
-use borrow.Author.Rules.{rules}
 use Rattle.point_steps.proofs.point_terms_of.Goals as goal
 
 pub returns : goal.returns

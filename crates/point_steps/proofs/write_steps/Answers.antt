@@ -2,7 +2,6 @@
 use Rattle.correspondences.specs.Problem.{problem}
 use Rattle.point_steps.proofs.Passes.{all_written, not_written}
 use native.Mathlib.Omega.{arith}
-use borrow.Author.Rules.{rules}
 use Rattle.point_steps.proofs.write_steps.Goals as goal
 
 pub returns-then-inverse_deviations-gt-MAXIMUM_POINTS : goal.returns-then-inverse_deviations-gt-MAXIMUM_POINTS

@@ -2,7 +2,6 @@
 use Rattle.optimizer.proofs.Whole.{not_valid, not_solved, solves}
 use Rattle.correspondences.specs.Problem.{problem}
 use native.Mathlib.Omega.{arith}
-use borrow.Author.Rules.{rules}
 use mathlib.Core.Path.{ap}
 use mathlib.Core.Bool.{not}
 use Rattle.optimizer.proofs.whole_step.solved_step.Goals as goal

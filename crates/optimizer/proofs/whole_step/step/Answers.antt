@@ -1,7 +1,6 @@
 -- `optimizer::whole_step::step` meets its contract. Assumes nothing.
 use Rattle.optimizer.proofs.Whole.{wrong_room, checks_refused, fits, done}
 use Rattle.correspondences.specs.Problem.{problem}
-use borrow.Author.Rules.{rules}
 use mathlib.Core.Path.{ap}
 use mathlib.Core.Bool.{not}
 use Rattle.optimizer.proofs.whole_step.step.Goals as goal

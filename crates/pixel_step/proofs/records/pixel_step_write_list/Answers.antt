@@ -1,5 +1,4 @@
 use Rattle.pixel_step.proofs.Laws.{listed}
-use borrow.Author.Rules.{rules}
 use Rattle.pixel_step.proofs.records.pixel_step_write_list.Goals as goal
 
 pub returns : goal.returns
