@@ -73,22 +73,22 @@ fn block(views: LinearizedViews, inverse_deviation: f64) -> LocalLinearization
 fn sums(views: LinearizedViews, cost: f64, squared_residual: f64) -> LocalLinearization
     ensures { result ≡ Linearize.sums views cost squared_residual }
 {
-    let a = views.first;
-    let b = views.second;
-    let z = a.pose;
-    let x = [z; 10];
-    let r = a.residual;
-    let y = b.pose;
-    let s = b.residual;
-    let terms = terms::terms(a, b);
+    let first = views.first;
+    let second = views.second;
+    let by_pose = first.pose;
+    let pose1 = [by_pose; 10];
+    let residual1 = first.residual;
+    let pose2 = second.pose;
+    let residual2 = second.residual;
+    let terms = terms::terms(first, second);
     let cross_hessian = terms.cross_hessian;
     let point_hessian = terms.point_hessian;
     let point_gradient = terms.point_gradient;
     LocalLinearization {
-        pose_hessian: accumulate::pose_hessian(x, y),
+        pose_hessian: accumulate::pose_hessian(pose1, pose2),
         cross_hessian,
         point_hessian,
-        pose_gradient: accumulate::pose_gradient(x, r, y, s),
+        pose_gradient: accumulate::pose_gradient(pose1, residual1, pose2, residual2),
         point_gradient,
         cost,
         squared_residual,

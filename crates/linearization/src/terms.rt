@@ -39,9 +39,9 @@ pub fn point_terms(
             refusal,
         };
     }
-    let a = views.first;
-    let b = views.second;
-    terms(a, b)
+    let first = views.first;
+    let second = views.second;
+    terms(first, second)
 }
 
 // The terms of a block
@@ -60,20 +60,21 @@ pub fn terms_of(local: LocalLinearization) -> PointTerms
     }
 }
 
-pub(crate) fn terms(a: View1, b: View2) -> PointTerms
-    ensures { result ≡ Linearize.terms a b }
+// The terms of both views; those of view 1 by the pose are all alike.
+pub(crate) fn terms(first: View1, second: View2) -> PointTerms
+    ensures { result ≡ Linearize.terms first second }
 {
-    let z = a.pose;
-    let x = [z; 10];
-    let p = a.point;
-    let r = a.residual;
-    let y = b.pose;
-    let q = b.point;
-    let s = b.residual;
+    let by_pose = first.pose;
+    let pose1 = [by_pose; 10];
+    let point1 = first.point;
+    let residual1 = first.residual;
+    let pose2 = second.pose;
+    let point2 = second.point;
+    let residual2 = second.residual;
     PointTerms {
-        cross_hessian: accumulate::cross_hessian(x, p, y, q),
-        point_hessian: accumulate::point_hessian(p, q),
-        point_gradient: accumulate::point_gradient(p, r, q, s),
+        cross_hessian: accumulate::cross_hessian(pose1, point1, pose2, point2),
+        point_hessian: accumulate::point_hessian(point1, point2),
+        point_gradient: accumulate::point_gradient(point1, residual1, point2, residual2),
         refusal: Refusal::none(),
     }
 }
