@@ -1,7 +1,6 @@
 -- `answers::answer` meets its contract. Assumes nothing.
 use Rattle.answers.proofs.Laws.{stored_none, stores_some}
-use mathlib.Core.Path.{refl}
-use mathlib.Core.Path.{ap}
+use mathlib.Core.Path.{refl, ap}
 use mathlib.Core.Bool.{not}
 use Rattle.answers.proofs.answer.Goals as goal
 

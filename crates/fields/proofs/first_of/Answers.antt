@@ -1,7 +1,6 @@
 -- `fields::first_of` meets its contract. Assumes nothing.
-use mathlib.Core.Path.{refl}
+use mathlib.Core.Path.{refl, ap}
 use Rattle.refusal.proofs.Scans.{stop, pass}
-use mathlib.Core.Path.{ap}
 use mathlib.Core.Bool.{not}
 use Rattle.fields.proofs.first_of.Goals as goal
 

@@ -1,7 +1,6 @@
 -- `gradient_norm::norm5` meets its contract. Assumes nothing.
-use mathlib.Core.Path.{refl}
+use mathlib.Core.Path.{refl, ap}
 use Rattle.gradient_norm.proofs.Norms.{floor_clear, five_zeros, norm_unscaled, norm_scaled}
-use mathlib.Core.Path.{ap}
 use mathlib.Core.Bool.{not}
 use Rattle.gradient_norm.proofs.norm5.Goals as goal
 

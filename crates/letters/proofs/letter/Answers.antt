@@ -6,11 +6,9 @@ use Rattle.point_block.specs.Lone.{lone_factor}
 use Rattle.point_block.specs.declared.LoneFactor.{LoneFactor}
 use Rattle.linearization.specs.declared.linearize.LocalLinearization.{LocalLinearization}
 use lib.Ieee.{Float, eq, le}
-use mathlib.Core.Bool.{Bool, cond}
-use mathlib.Core.Path.{◌≡◌, refl, sym, ◌∙◌}
+use mathlib.Core.Bool.{Bool, cond, not}
+use mathlib.Core.Path.{◌≡◌, refl, sym, ◌∙◌, ap}
 use borrow.Author.Tests.{not-true, not-false}
-use mathlib.Core.Path.{ap}
-use mathlib.Core.Bool.{not}
 use Rattle.letters.proofs.letter.Goals as goal
 
 -- the letter, by the three tests

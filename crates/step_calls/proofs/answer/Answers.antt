@@ -1,8 +1,7 @@
-use mathlib.Core.Path.{◌≡◌, sym, ◌∙◌}
+use mathlib.Core.Path.{◌≡◌, sym, ◌∙◌, ap}
 use lib.ListN.{length}
 use Rattle.answers.proofs.Laws.{stored_none, stored_some, one_set}
 use borrow.Author.Rules.{rules}
-use mathlib.Core.Path.{ap}
 use mathlib.Core.Bool.{not}
 use Rattle.step_calls.proofs.answer.Goals as goal
 

@@ -1,10 +1,9 @@
-use mathlib.Core.Path.{◌≡◌}
+use mathlib.Core.Path.{◌≡◌, ap}
 use lib.ListN.{length}
 use Rattle.correspondences.specs.Problem.{problem}
 use Rattle.correspondences.specs.declared.Rig.{Rig}
 use Rattle.answers.proofs.Laws.{three_fit}
 use Rattle.step_calls.proofs.Laws.{too_short_step, steps}
-use mathlib.Core.Path.{ap}
 use mathlib.Core.Bool.{not}
 use Rattle.step_calls.proofs.step.Goals as goal
 

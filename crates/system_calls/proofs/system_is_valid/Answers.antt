@@ -1,5 +1,5 @@
 use mathlib.Core.Path.{◌≡◌, ap, ◌∙◌}
-use mathlib.Core.Bool.{Bool}
+use mathlib.Core.Bool.{Bool, not}
 use mathlib.Core.List.{[], ◌∷◌}
 use Prim.Native.Nat.{ℕ}
 use native.Mathlib.Omega.{arith}
@@ -10,7 +10,6 @@ use Rattle.answers.specs.Answers.{code}
 use Rattle.system_calls.specs.Calls.{is_valid}
 use Rattle.flat_numbers.specs.FlatNumbers.{flag}
 use Rattle.answers.proofs.Laws.{too_short, answers_none, three_fit, one_set}
-use mathlib.Core.Bool.{not}
 use Rattle.system_calls.proofs.system_is_valid.Goals as goal
 
 pub returns-then-not-system-counts : goal.returns-then-not-system-counts

@@ -1,9 +1,8 @@
-use mathlib.Core.Path.{◌≡◌}
+use mathlib.Core.Path.{◌≡◌, ap}
 use lib.ListN.{length}
 use Rattle.system_calls.specs.Calls.{new_system}
 use Rattle.answers.proofs.Laws.{two_fit}
 use Rattle.system_calls.proofs.Laws.{too_short_system, changes}
-use mathlib.Core.Path.{ap}
 use mathlib.Core.Bool.{not}
 use Rattle.system_calls.proofs.system_new.Goals as goal
 

@@ -1,7 +1,6 @@
-use mathlib.Core.Path.{refl}
+use mathlib.Core.Path.{refl, ap}
 use native.Mathlib.Omega.{arith}
 use Rattle.vectors.proofs.Finite.{finite_stops, finite_goes_on, finite_ends}
-use mathlib.Core.Path.{ap}
 use mathlib.Core.Bool.{not}
 use Rattle.vectors.proofs.all_finite.Goals as goal
 

@@ -7,8 +7,7 @@ use lib.ListN.{length}
 use Rattle.refusal.proofs.Scans.{stop_unless, pass_unless}
 use Rattle.checks.proofs.Parts.{fits}
 use Rattle.checks.proofs.Passed.{all_fit}
-use mathlib.Core.Path.{refl}
-use mathlib.Core.Path.{ap}
+use mathlib.Core.Path.{refl, ap}
 use mathlib.Core.Bool.{not}
 use Rattle.checks.proofs.rows.refused.Goals as goal
 

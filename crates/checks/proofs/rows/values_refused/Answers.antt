@@ -5,8 +5,7 @@ use Rattle.refusal.specs.Refused.{of}
 use lib.Dec.{leb}
 use lib.ListN.{length}
 use Rattle.refusal.proofs.Scans.{stop, pass, stop_unless, pass_unless}
-use mathlib.Core.Path.{refl}
-use mathlib.Core.Path.{ap}
+use mathlib.Core.Path.{refl, ap}
 use mathlib.Core.Bool.{not}
 use Rattle.checks.proofs.rows.values_refused.Goals as goal
 

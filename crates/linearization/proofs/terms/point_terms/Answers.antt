@@ -1,8 +1,7 @@
 -- `linearization::terms::point_terms` meets its contract. Assumes nothing.
 use Rattle.linearization.specs.Linearize.{no_block, point_terms}
 use Rattle.linearization.proofs.Laws.{no_terms, some_terms}
-use mathlib.Core.Path.{refl}
-use mathlib.Core.Path.{ap}
+use mathlib.Core.Path.{refl, ap}
 use mathlib.Core.Bool.{not}
 use Rattle.linearization.proofs.terms.point_terms.Goals as goal
 

@@ -2,8 +2,7 @@
 use borrow.Author.Tests.{le-leb, lt-leb}
 use Rattle.record.proofs.Bounds.{made_length, not_written, written}
 use lib.Seq.{length-take-le}
-use mathlib.Core.Path.{refl, sym}
-use mathlib.Core.Path.{ap}
+use mathlib.Core.Path.{refl, sym, ap}
 use mathlib.Core.Bool.{not}
 use Rattle.record.proofs.list.write_list.Goals as goal
 

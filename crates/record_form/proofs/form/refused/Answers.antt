@@ -5,8 +5,7 @@ use Rattle.refusal.specs.Refused.{of}
 use Rattle.refusal.proofs.Scans.{stop, pass, stop_unless, pass_unless}
 use Rattle.record_form.specs.Form.{max_record, refused}
 use borrow.Author.Tests.{lt-leb, le-leb}
-use mathlib.Core.Path.{refl}
-use mathlib.Core.Path.{ap}
+use mathlib.Core.Path.{refl, ap}
 use mathlib.Core.Bool.{not}
 use Rattle.record_form.proofs.form.refused.Goals as goal
 

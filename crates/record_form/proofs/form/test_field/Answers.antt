@@ -1,7 +1,6 @@
 -- `record_form::form::test_field` meets its contract. Assumes nothing.
 use Rattle.refusal.proofs.Scans.{bad, good}
-use mathlib.Core.Path.{sym, ◌∙◌}
-use mathlib.Core.Path.{ap}
+use mathlib.Core.Path.{sym, ◌∙◌, ap}
 use mathlib.Core.Bool.{not}
 use Rattle.record_form.proofs.form.test_field.Goals as goal
 
