@@ -19,6 +19,6 @@ fn main(rt: HostRuntime) -> io::Result<()> {
     systems::print(&rt)?;
 
     let mut text = [0u8; 16384];
-    let n = stored_file::read_full(&mut rt.reader(), &mut text)?;
+    let n = stored_file::read_full(&mut rt.reader(), &mut text);
     roots::print(&rt, &text[..n])
 }

@@ -68,6 +68,6 @@ fn replay_from(
     }
     let point = file.len() - 4;
     let name = &file[0..point];
-    let n = stored_file::read(rt, file, text)?;
+    let n = stored_file::read(rt, file, text);
     Tally::of(rt, &text[..n], name, form)?.show(rt, name)
 }
