@@ -26,6 +26,12 @@ unfolding system_answer
 changes fits refusal r s t x after counts now number f p q e =
     rw (not-false fits f, ← p, ← q) (record { same_number = e.0; same_numbers = e.1; same_counts = e.2 })
 
+-- the same, with the system that is stored given by what is stored
+pub changes_to : (fits : Bool) (refusal r : Refusal) (s t : ReducedSystem) (x after : List Float) (counts now : List ℕ) (number : ℕ) → not fits ≡ false
+    → r ≡ refusal → (number ≡ code r) × (after ≡ stored r (system_numbers t) x) × (now ≡ stored r (system_counts t) counts) → t ≡ s
+    → Changed number after now (system_answer fits refusal s x counts)
+changes_to fits refusal r s t x after counts now number f p e q = changes fits refusal r s t x after counts now number f p q e
+
 -- three counts, written one by one
 pub three_set : (l : List ℕ) (a b c : ℕ) → length l ≡ 3 → set (set (set l 0 a) 1 b) 2 c ≡ a ∷ b ∷ c ∷ []
 three_set [] a b c e = absurd (omega (arith, e))

@@ -1,12 +1,12 @@
 use mathlib.Core.Path.{◌≡◌, ap, ◌∙◌}
-use mathlib.Core.Bool.{Bool, not}
+use mathlib.Core.Bool.{not}
 use mathlib.Core.List.{[], ◌∷◌}
 use Prim.Native.Nat.{ℕ}
 use native.Mathlib.Omega.{arith}
 use lib.ListN.{length}
 use Rattle.reduced_system.specs.Model as Model
-use Rattle.reduced_system.specs.declared.ReducedSystem.{ReducedSystem}
 use Rattle.answers.specs.Answers.{code}
+use Rattle.flat.specs.Flat.{system}
 use Rattle.system_calls.specs.Calls.{is_valid}
 use Rattle.flat_numbers.specs.FlatNumbers.{flag}
 use Rattle.answers.proofs.Laws.{too_short, answers_none, three_fit, one_set}
@@ -23,8 +23,5 @@ pub returns : goal.returns
 unfolding is_valid
 returns c =
     let f : (length c.args.system.now ≡ 45) × (length c.args.counts.now ≡ 3) × (length c.args.out.now ≡ 1) = three_fit (length c.args.system.now) (length c.args.counts.now) (length c.args.out.now) 45 3 1 (ap not c.if-not-system-counts.false) in
-    let e =
-    c.flag.ensures
-    ∙ ap (λ (b : Bool). flag b) c.is_valid.ensures
-    ∙ ap (λ (s : ReducedSystem). flag (Model.is_valid s)) c.system-s.ensures in
-    answers_none _ _ _ _ _ (ap not c.if-not-system-counts.false) (c.code.ensures ∙ ap code c.none.ensures) (one_set c.args.out.now _ ((let it : (length c.args.system.now ≡ 45) × (length c.args.counts.now ≡ 3) × (length c.args.out.now ≡ 1) = three_fit (length c.args.system.now) (length c.args.counts.now) (length c.args.out.now) 45 3 1 (ap not c.if-not-system-counts.false) in it)).2 ∙ ap (λ (n : ℕ). n ∷ []) e)
+    let e : c.flag.result ≡ flag (Model.is_valid (system c.args.system.now c.args.counts.now)) = cc in
+    answers_none _ _ _ _ _ (ap not c.if-not-system-counts.false) (c.code.ensures ∙ ap code c.none.ensures) (one_set c.args.out.now _ f.2 ∙ ap (λ (n : ℕ). n ∷ []) e)

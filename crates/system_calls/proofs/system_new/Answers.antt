@@ -2,7 +2,7 @@ use mathlib.Core.Path.{◌≡◌, ap}
 use lib.ListN.{length}
 use Rattle.system_calls.specs.Calls.{new_system}
 use Rattle.answers.proofs.Laws.{two_fit}
-use Rattle.system_calls.proofs.Laws.{too_short_system, changes}
+use Rattle.system_calls.proofs.Laws.{too_short_system, changes_to}
 use mathlib.Core.Bool.{not}
 use Rattle.system_calls.proofs.system_new.Goals as goal
 
@@ -19,4 +19,4 @@ pub returns : goal.returns
 unfolding new_system
 returns c =
     let f : (length c.args.system.now ≡ 45) × (length c.args.counts.now ≡ 3) = two_fit (length c.args.system.now) (length c.args.counts.now) 45 3 (ap not c.if-not-system-counts.false) in
-    changes _ _ _ _ _ _ _ _ _ _ (ap not c.if-not-system-counts.false) c.none.ensures c.new.ensures c.answer.ensures
+    changes_to _ _ _ _ _ _ _ _ _ _ (ap not c.if-not-system-counts.false) c.none.ensures c.answer.ensures (cc)
