@@ -8,10 +8,10 @@ use borrow.Author.Tests.{not-true, not-false, eqb-true}
 use lib.Dec.{eqb}
 use lib.ListN.{length, set}
 use Rattle.refusal.specs.Refused.{none, is_none}
-use Rattle.refusal.specs.declared.Refusal.{Refusal}
+use Rattle.refusal.specs.declared.Row.{Row}
 use Rattle.answers.specs.Answers.{code, lengths_code, stored, Stores, answer, Answered}
 
-module _ {A : Type 0} (r : Refusal) (values out : List A) where
+module _ {A : Type 0} (r : Row) (values out : List A) where
   stored_length : length values ≡ length out → length (stored r values out) ≡ length out
   unfolding stored
   stored_length e = by (is_none r)
@@ -36,16 +36,16 @@ module _ {A : Type 0} (r : Refusal) (values out : List A) where
 -- ---- answering
 
 -- row 1
-pub too_short : {A : Type 0} (fits : Bool) (refusal : Refusal) (values out : List A) (number : ℕ) → not fits ≡ true → number ≡ lengths_code → Answered number out (answer fits refusal values out)
+pub too_short : {A : Type 0} (fits : Bool) (refusal : Row) (values out : List A) (number : ℕ) → not fits ≡ true → number ≡ lengths_code → Answered number out (answer fits refusal values out)
 unfolding answer
 too_short fits refusal values out number t e = rw (not-true fits t) (record { same_number = e; same_out = refl })
 
 -- the call's own answer
-pub answers : {A : Type 0} (fits : Bool) (refusal r : Refusal) (values v out after : List A) (number : ℕ) → not fits ≡ false → r ≡ refusal → v ≡ values
+pub answers : {A : Type 0} (fits : Bool) (refusal r : Row) (values v out after : List A) (number : ℕ) → not fits ≡ false → r ≡ refusal → v ≡ values
     → length v ≡ length out → (number ≡ code r) × Stores (stored r v out) out after → Answered number after (answer fits refusal values out)
 unfolding answer
 answers fits refusal r values v out after number t p q n e =
-    rw (not-false fits t) (record { same_number = e.0 ∙ ap code p; same_out = e.1.fits (stored_length r v out n) ∙ ap (λ (x : Refusal). stored x v out) p ∙ ap (λ (x : List _). stored refusal x out) q })
+    rw (not-false fits t) (record { same_number = e.0 ∙ ap code p; same_out = e.1.fits (stored_length r v out n) ∙ ap (λ (x : Row). stored x v out) p ∙ ap (λ (x : List _). stored refusal x out) q })
 
 -- the answer of a call that refuses nothing
 pub answers_none : {A : Type 0} (fits : Bool) (values out after : List A) (number : ℕ) → not fits ≡ false → number ≡ code none → after ≡ values

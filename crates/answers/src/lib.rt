@@ -5,10 +5,10 @@
 ghost use Rattle.std.specs.Prelude.{◌≡◌};
 ghost use Rattle.answers.specs.Answers as Answers;
 
-use refusal::Refusal;
+use refusal::Row;
 
 // A refusal as one number: number + 256 · view + 65,536 · index. It is 0 where nothing was refused.
-pub fn code(refusal: Refusal) -> u64
+pub fn code(refusal: Row) -> u64
     ensures { result ≡ Answers.code refusal }
 {
     refusal.number as u64 + 256 * (refusal.view as u64) + 65536 * (refusal.index as u64)
@@ -18,11 +18,11 @@ pub fn code(refusal: Refusal) -> u64
 pub fn lengths() -> u64
     ensures { result ≡ Answers.lengths_code }
 {
-    code(Refusal::of(refusal::LENGTHS))
+    code(Row::of(refusal::LENGTHS))
 }
 
 // Stores the values where nothing was refused and `out` has room for just as many, and answers the refusal's code.
-pub fn answer(refusal: Refusal, values: &[f64], out: &mut [f64]) -> u64
+pub fn answer(refusal: Row, values: &[f64], out: &mut [f64]) -> u64
     ensures { (result ≡ Answers.code refusal)
         × Answers.Stores (Answers.stored refusal values.now out.old) out.old out.new }
 {

@@ -5,7 +5,7 @@ use Prim.Native.Nat.{ℕ, ◌+◌}
 use native.Mathlib.Numerals.{add-one}
 use borrow.Author.Tests.{not-true, not-false}
 use Rattle.refusal.specs.Refused.{none, is_none}
-use Rattle.refusal.specs.declared.Refusal.{Refusal}
+use Rattle.refusal.specs.declared.Row.{Row}
 use Rattle.linearization.specs.declared.linearize.LocalLinearization.{LocalLinearization}
 use Rattle.views.specs.declared.Correspondence.{Correspondence}
 use Rattle.list_of_adds.specs.System.{add}
@@ -34,15 +34,15 @@ system_all p i s a e f g = rw (g, e, f) refl
 
 -- ---- after the checks
 
-pub passed : (x v : Refusal) (b : Bool) → v ≡ x → b ≡ is_none v → not b ≡ false → is_none x ≡ true
+pub passed : (x v : Row) (b : Bool) → v ≡ x → b ≡ is_none v → not b ≡ false → is_none x ≡ true
 passed x v b e f t = ap is_none (sym e) ∙ sym f ∙ not-false b t
 
-module _ (p : Problem) (v : Refusal) (e : v ≡ Checks.refused p) (b : Bool) (f : b ≡ is_none v) (s : ReducedSystem) where
+module _ (p : Problem) (v : Row) (e : v ≡ Checks.refused p) (b : Bool) (f : b ≡ is_none v) (s : ReducedSystem) where
   pub not_reduced : not b ≡ true → s ≡ no_system → record { system = s; refusal = v } ≡ reduced p
   unfolding reduced
   not_reduced t g = rw (← e, ← f, not-true b t, g) refl
 
-  pub reduces : not b ≡ false → s ≡ reduced_system p → (n : Refusal) → n ≡ none → record { system = s; refusal = n } ≡ reduced p
+  pub reduces : not b ≡ false → s ≡ reduced_system p → (n : Row) → n ≡ none → record { system = s; refusal = n } ≡ reduced p
   unfolding reduced
   reduces t g n h = rw (← e, ← f, not-false b t, g, h) refl
 

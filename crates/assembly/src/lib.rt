@@ -12,14 +12,14 @@ ghost use Rattle.assembly.specs.Assembly as Assembly;
 use correspondences::Rig;
 use linearization::LocalLinearization;
 use reduced_system::ReducedSystem;
-use refusal::Refusal;
+use refusal::Row;
 use views::Correspondence;
 
 // A problem's system after the pose damping; beside a refusal every number is +0.
 #[derive(Clone, Copy)]
 pub struct Reduced {
     pub system: ReducedSystem,
-    pub refusal: Refusal,
+    pub refusal: Row,
 }
 
 // `reduced_system`. Tests rows 1 to 9, the room apart.
@@ -43,7 +43,7 @@ pub fn reduced_system<'a>(
     let system = damped_system(points, view1, view2, inverse_deviations, rig, damping);
     Reduced {
         system,
-        refusal: Refusal::none(),
+        refusal: Row::none(),
     }
 }
 

@@ -8,7 +8,7 @@ ghost use Rattle.correspondences.specs.Problem as Problem;
 ghost use Rattle.checks.specs.Checks as Checks;
 
 use correspondences::Rig;
-use refusal::Refusal;
+use refusal::Row;
 
 const MINIMUM_POINTS: u32 = 5;
 
@@ -23,16 +23,16 @@ pub fn refused<'a>(
     inverse_deviations: &[f64],
     rig: Rig,
     damping: f64,
-) -> Refusal
+) -> Row
     ensures { result ≡ Checks.refused (Problem.problem points.now view1.now view2.now
         inverse_deviations.now rig damping) }
 {
     let n = inverse_deviations.len();
     if !(belongs(points.len(), 3, n) & belongs(view1.len(), 2, n) & belongs(view2.len(), 2, n)) {
-        return Refusal::of(refusal::LENGTHS);
+        return Row::of(refusal::LENGTHS);
     }
     if !(n <= MAXIMUM_POINTS) {
-        return Refusal::of(refusal::TOO_MANY_POINTS);
+        return Row::of(refusal::TOO_MANY_POINTS);
     }
     values_refused(points, view1, view2, inverse_deviations, rig, damping)
 }
@@ -53,7 +53,7 @@ fn values_refused<'a>(
     inverse_deviations: &[f64],
     rig: Rig,
     damping: f64,
-) -> Refusal
+) -> Row
     requires { Checks.Fits points.now view1.now view2.now inverse_deviations.now }
     ensures { result ≡ Checks.values_refused (Problem.problem points.now view1.now view2.now
         inverse_deviations.now rig damping) }
@@ -61,35 +61,35 @@ fn values_refused<'a>(
     let n = inverse_deviations.len() as u32;
     let pose = rig.pose;
     if !point_damping::good_damping(damping) {
-        return Refusal::of(refusal::DAMPING);
+        return Row::of(refusal::DAMPING);
     }
     let by_deviation = deviations_refused(inverse_deviations, n);
     if !by_deviation.is_none() {
         return by_deviation;
     }
     if !good_baseline(pose.baseline) {
-        return Refusal::of(refusal::BASELINE);
+        return Row::of(refusal::BASELINE);
     }
     let by_point = points_refused(points, n);
     if !by_point.is_none() {
         return by_point;
     }
     if !(MINIMUM_POINTS <= n) {
-        return Refusal::of(refusal::TOO_FEW_POINTS);
+        return Row::of(refusal::TOO_FEW_POINTS);
     }
     seen_refused(points, view1, view2, n, rig)
 }
 
 // Row 4
-fn deviations_refused(inverse_deviations: &[f64], n: u32) -> Refusal
+fn deviations_refused(inverse_deviations: &[f64], n: u32) -> Row
     ensures { result ≡ First.first (Checks.deviation_refused inverse_deviations.now) 0 n }
 {
     for i in 0..n {
         if !views::good_deviation(vectors::entry(inverse_deviations, i as usize)) {
-            return Refusal::at(refusal::INVERSE_DEVIATION, 0, i);
+            return Row::at(refusal::INVERSE_DEVIATION, 0, i);
         }
     }
-    Refusal::none()
+    Row::none()
 }
 
 // Row 5
@@ -100,20 +100,20 @@ fn good_baseline(baseline: f64) -> bool
 }
 
 // Row 6
-fn points_refused(points: &[f64], n: u32) -> Refusal
+fn points_refused(points: &[f64], n: u32) -> Row
     ensures { result ≡ First.first (Checks.point_refused points.now) 0 n }
 {
     for i in 0..n {
         let point = correspondences::point_at(points, i);
         if !vectors::all_finite(&point) {
-            return Refusal::at(refusal::POINT, 0, i);
+            return Row::at(refusal::POINT, 0, i);
         }
     }
-    Refusal::none()
+    Row::none()
 }
 
 // Rows 8 and 9
-fn seen_refused<'a>(points: &[f64], view1: &'a [f64], view2: &'a [f64], n: u32, rig: Rig) -> Refusal
+fn seen_refused<'a>(points: &[f64], view1: &'a [f64], view2: &'a [f64], n: u32, rig: Rig) -> Row
     requires { (length view1.now ≡ 2 * n) × (length view2.now ≡ 2 * n) }
     ensures { result ≡ Checks.seen_refused rig points.now view1.now view2.now n }
 {
@@ -129,16 +129,16 @@ fn seen_refused<'a>(points: &[f64], view1: &'a [f64], view2: &'a [f64], n: u32, 
 }
 
 // Row 8 for one view
-fn view_refused(view: &[f64], number: u32, n: u32) -> Refusal
+fn view_refused(view: &[f64], number: u32, n: u32) -> Row
     ensures { result ≡ First.first (Checks.observation_refused number view.now) 0 n }
 {
     for i in 0..n {
         let observation = correspondences::pair_at(view, i);
         if !vectors::all_finite(&observation) {
-            return Refusal::at(refusal::OBSERVATION, number, i);
+            return Row::at(refusal::OBSERVATION, number, i);
         }
     }
-    Refusal::none()
+    Row::none()
 }
 
 // Row 9: both loops are left at the first view that does not project.
@@ -148,11 +148,11 @@ fn projections_refused<'a>(
     view2: &'a [f64],
     n: u32,
     rig: Rig,
-) -> Refusal
+) -> Row
     requires { (length view1.now ≡ 2 * n) × (length view2.now ≡ 2 * n) }
     ensures { result ≡ First.first (Checks.projection_refused rig points.now view1.now view2.now) 0 n }
 {
-    let mut place = Refusal::none();
+    let mut place = Row::none();
     'points: for i in 0..n {
         let point = correspondences::point_at(points, i);
         for view in 1..=2u32 {
@@ -161,7 +161,7 @@ fn projections_refused<'a>(
             let projected = correspondences::project(rig, view, seen, point);
             let refusal = projected.refusal;
             if !refusal.is_none() {
-                place = Refusal::at(refusal::PROJECTION, view, i);
+                place = Row::at(refusal::PROJECTION, view, i);
                 break 'points;
             }
         }

@@ -5,7 +5,7 @@ ghost use Rattle.std.specs.Prelude.{[], ◌∷◌, ◌≡◌, ◌<◌};
 ghost use Rattle.refusal.specs.First as First;
 ghost use Rattle.fields.specs.Fields as Fields;
 
-use refusal::Refusal;
+use refusal::Row;
 
 // Where the fields begin
 pub const CAMERA1_AT: usize = 0;
@@ -44,7 +44,7 @@ pub fn point_fields(record: &[u8]) -> usize
 }
 
 // The first refusal of five fields
-pub fn first_of(a: Refusal, b: Refusal, c: Refusal, d: Refusal, e: Refusal) -> Refusal
+pub fn first_of(a: Row, b: Row, c: Row, d: Row, e: Row) -> Row
     ensures { result ≡ First.first_of (a ∷ b ∷ c ∷ d ∷ e ∷ []) }
 {
     if !a.is_none() {

@@ -10,7 +10,7 @@ use correspondences::Rig;
 use linearization::LocalLinearization;
 use projection::PinholeCamera;
 use reduced_system::ReducedSystem;
-use refusal::Refusal;
+use refusal::Row;
 use views::{Correspondence, Pose};
 
 // Five numbers, from `start` on
@@ -65,7 +65,7 @@ pub fn block(x: &[f64]) -> LocalLinearization
         point_gradient: slices::vector3(x, 54),
         cost: vectors::entry(x, 57),
         squared_residual: vectors::entry(x, 58),
-        refusal: Refusal::none(),
+        refusal: Row::none(),
     }
 }
 

@@ -9,10 +9,10 @@ ghost use Rattle.list_of_adds.specs.System as System;
 
 use linearization::LocalLinearization;
 use reduced_system::ReducedSystem;
-use refusal::Refusal;
+use refusal::Row;
 
 // Takes a block in. Tests rows 3, 12, 13; refused, it leaves the system unchanged.
-pub fn add_to(system: &mut ReducedSystem, local: LocalLinearization, damping: f64) -> Refusal
+pub fn add_to(system: &mut ReducedSystem, local: LocalLinearization, damping: f64) -> Row
     ensures { (result ≡ (System.add system.old local damping).refusal) × (system.new ≡ (System.add system.old local damping).system) }
 {
     let was = *system;

@@ -13,7 +13,7 @@ use Rattle.number.proofs.Monotone.{nonneg_zero, finite_not_nan, nonneg_mul_weigh
 use Rattle.root.proofs.Signs.{nonneg_sum_squares}
 use Rattle.refusal.specs.Rows as Rows
 use Rattle.refusal.specs.Refused.{at, of, is_none}
-use Rattle.refusal.specs.declared.Refusal.{Refusal}
+use Rattle.refusal.specs.declared.Row.{Row}
 use Rattle.projection.specs.Pose.{rotate, camera_point}
 use Rattle.projection.specs.Projection.{all_finite, pixel_projection}
 use Rattle.projection.specs.declared.PinholeCamera.{PinholeCamera}
@@ -70,7 +70,7 @@ block_costs first second rotated pose w h f g =
       sum_nonneg (m ⊗ m) (n ⊗ n) (nonneg_square binary64 m (nonneg_not_nan m a)) (nonneg_square binary64 n (nonneg_not_nan n b)),
     )
 
-not_made_costs : (r : Refusal) → Costs (no_block r)
+not_made_costs : (r : Row) → Costs (no_block r)
 unfolding no_block
 not_made_costs r = (nonneg_zero binary64, nonneg_zero binary64)
 

@@ -5,7 +5,7 @@ use mathlib.Core.List.{List}
 use borrow.Author.Tests.{not-true, not-false}
 use lib.Ieee.{Float}
 use Rattle.refusal.specs.Refused.{none, is_none}
-use Rattle.refusal.specs.declared.Refusal.{Refusal}
+use Rattle.refusal.specs.declared.Row.{Row}
 use Rattle.projection.specs.declared.PinholeCamera.{PinholeCamera}
 use Rattle.linearization.specs.declared.linearize.LocalLinearization.{LocalLinearization}
 use Rattle.linearization.specs.declared.terms.PointTerms.{PointTerms}
@@ -33,7 +33,7 @@ module _ (camera1 camera2 : PinholeCamera) (pose : Pose) (correspondence : Corre
   unfolding linearize_point point_terms block sums terms
   some_terms r p k = rw (← e, ← u, not-false b p) k
 
-pub sums_are : (v : LinearizedViews) (cost squared : Float) (t : PointTerms) (h g : List Float) (n : Refusal) → t ≡ terms v.first v.second
+pub sums_are : (v : LinearizedViews) (cost squared : Float) (t : PointTerms) (h g : List Float) (n : Row) → t ≡ terms v.first v.second
     → h ≡ pose_hessian (pose_rows v.first) v.second.pose → g ≡ pose_gradient (pose_rows v.first) v.first.residual v.second.pose v.second.residual → n ≡ none
     → record {
       pose_hessian = h;

@@ -3,7 +3,7 @@ use Rattle.std.specs.Prelude.{cond, List, Float}
 use Rattle.number.specs.Binary64.{◌⊕◌, ◌⊗◌, zero}
 use Rattle.number.specs.Vectors.{tabulate, zeros}
 use Rattle.refusal.specs.Refused.{none, is_none}
-use Rattle.refusal.specs.declared.Refusal.{Refusal}
+use Rattle.refusal.specs.declared.Row.{Row}
 use Rattle.projection.specs.declared.PinholeCamera.{PinholeCamera}
 use Rattle.linearization.specs.declared.linearize.LocalLinearization.{LocalLinearization}
 use Rattle.linearization.specs.declared.terms.PointTerms.{PointTerms}
@@ -17,7 +17,7 @@ use Rattle.views.specs.Views.{linearize_views}
 use Rattle.accumulate.specs.Accumulate.{pose_hessian, cross_hessian, point_hessian, pose_gradient, point_gradient}
 
 -- every number beside a refusal is +0
-unfoldable pub no_block : Refusal → LocalLinearization
+unfoldable pub no_block : Row → LocalLinearization
 no_block r = record {
   pose_hessian = zeros 25;
   cross_hessian = zeros 15;

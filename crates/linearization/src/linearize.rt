@@ -7,7 +7,7 @@ ghost use Rattle.linearization.specs.Linearize as Linearize;
 
 use crate::terms;
 use projection::PinholeCamera;
-use refusal::Refusal;
+use refusal::Row;
 use views::{Correspondence, LinearizedViews, Pose};
 
 // A point's block: 5 by 5, 5 by 3 and 3 by 3, row by row, with its gradients and its cost. Beside a
@@ -21,7 +21,7 @@ pub struct LocalLinearization {
     pub point_gradient: [f64; 3],
     pub cost: f64,
     pub squared_residual: f64,
-    pub refusal: Refusal,
+    pub refusal: Row,
 }
 
 // The block of a correspondence. Tests row 4, then row 9 with view 1 or 2.
@@ -41,7 +41,7 @@ pub fn linearize_point(
     block(views, correspondence.inverse_deviation)
 }
 
-fn not_made(refusal: Refusal) -> LocalLinearization
+fn not_made(refusal: Row) -> LocalLinearization
     ensures { result ≡ Linearize.no_block refusal }
 {
     LocalLinearization {
@@ -92,6 +92,6 @@ fn sums(views: LinearizedViews, cost: f64, squared_residual: f64) -> LocalLinear
         point_gradient,
         cost,
         squared_residual,
-        refusal: Refusal::none(),
+        refusal: Row::none(),
     }
 }

@@ -8,7 +8,7 @@ ghost use Rattle.linearization.specs.Linearize as Linearize;
 
 use crate::linearize::LocalLinearization;
 use projection::PinholeCamera;
-use refusal::Refusal;
+use refusal::Row;
 use views::{Correspondence, Pose, View1, View2};
 
 // Beside a refusal every number is +0.
@@ -17,7 +17,7 @@ pub struct PointTerms {
     pub cross_hessian: [f64; 15],
     pub point_hessian: [f64; 9],
     pub point_gradient: [f64; 3],
-    pub refusal: Refusal,
+    pub refusal: Row,
 }
 
 // The terms of a correspondence's block. Tests row 4, then row 9 with view 1 or 2.
@@ -75,6 +75,6 @@ pub(crate) fn terms(first: View1, second: View2) -> PointTerms
         cross_hessian: accumulate::cross_hessian(pose1, point1, pose2, point2),
         point_hessian: accumulate::point_hessian(point1, point2),
         point_gradient: accumulate::point_gradient(point1, residual1, point2, residual2),
-        refusal: Refusal::none(),
+        refusal: Row::none(),
     }
 }

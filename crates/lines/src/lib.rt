@@ -4,7 +4,7 @@
 ghost use Rattle.lines.specs.Lines as Lines;
 ghost use Rattle.text.specs.Text as Text;
 
-use refusal::Refusal;
+use refusal::Row;
 
 // `run`, the number of points, the damping's bits
 pub fn put_run(out: &mut [u8], at: usize, n: u32, damping: f64) -> usize
@@ -32,7 +32,7 @@ pub fn put_point(out: &mut [u8], at: usize, i: u32, letter: u8) -> usize
 }
 
 // `refused`, number, view, index
-pub fn put_refused(out: &mut [u8], at: usize, refusal: Refusal) -> usize
+pub fn put_refused(out: &mut [u8], at: usize, refusal: Row) -> usize
     ensures { Text.Put (Lines.refused_line refusal) at out.old result out.new }
 {
     let number_at = text::put(out, at, b"refused ");

@@ -11,7 +11,7 @@ use Rattle.number.specs.Binary64.{◌⊕◌}
 use Rattle.extrema.specs.Extrema.{max}
 use Rattle.refusal.specs.Rows as Rows
 use Rattle.refusal.specs.Refused.{of, none}
-use Rattle.refusal.specs.declared.Refusal.{Refusal}
+use Rattle.refusal.specs.declared.Row.{Row}
 use Rattle.point_damping.specs.Damping.{good_damping}
 use Rattle.linearization.specs.declared.linearize.LocalLinearization.{LocalLinearization}
 use Rattle.reduced_system.specs.declared.ReducedSystem.{ReducedSystem}
@@ -46,7 +46,7 @@ unfolding taken_with
 takes_with s b e g d x w k m eg ex ed ek em = rw (eg, ed, ex, em, ek, add-one s.block_count) refl
 
 module _ (s : ReducedSystem) (b : LocalLinearization) (damping : Float) where
-  module _ (g : Bool) (t : g ≡ good_damping damping) (r : Refusal) where
+  module _ (g : Bool) (t : g ≡ good_damping damping) (r : Row) where
     pub adds_no_damping : not g ≡ true → r ≡ of Rows.damping → record { system = s; refusal = r } ≡ add s b damping
     unfolding add
     adds_no_damping p q = rw (← t, not-true g p, q) refl

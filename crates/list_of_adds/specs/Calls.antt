@@ -4,7 +4,7 @@ use Rattle.std.specs.Float.Ieee.{le, eq}
 use Rattle.number.specs.Binary64.{zero, epsilon192}
 use Rattle.refusal.specs.Rows as Rows
 use Rattle.refusal.specs.Refused.{of, none, is_none}
-use Rattle.refusal.specs.declared.Refusal.{Refusal}
+use Rattle.refusal.specs.declared.Row.{Row}
 use Rattle.projection.specs.declared.PinholeCamera.{PinholeCamera}
 use Rattle.point_damping.specs.Damping.{good_damping}
 use Rattle.point_block.specs.Lone.{lone_factor}
@@ -96,11 +96,11 @@ abbrev pub tally : Float → Tally → List Call → Tally
 tally d t [] = t
 tally d t (c ∷ cs) = tally d (counted d t c) cs
 
-abbrev pub refusal_of : Tally → Call → Refusal
+abbrev pub refusal_of : Tally → Call → Row
 refusal_of t (at_damping i) = cond (not_full t.blocks) none (of Rows.full)
 refusal_of t (at_refused i x h) = of Rows.damping
 
-abbrev pub refusals : Float → Tally → List Call → List Refusal
+abbrev pub refusals : Float → Tally → List Call → List Row
 refusals d t [] = []
 refusals d t (c ∷ cs) = refusal_of t c ∷ refusals d (counted d t c) cs
 

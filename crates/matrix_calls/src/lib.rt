@@ -7,7 +7,7 @@ ghost use Rattle.answers.specs.Answers as Answers;
 ghost use Rattle.matrix_calls.specs.Calls as Calls;
 
 use point_block::{LoneFactor, PointBlockFactor};
-use refusal::Refusal;
+use refusal::Row;
 
 // out: 3
 pub fn damping_diagonal(matrix: &[f64], out: &mut [f64]) -> u64
@@ -30,7 +30,7 @@ pub fn damped_matrix(matrix: &[f64], damping: f64, out: &mut [f64]) -> u64
         return answers::lengths();
     }
     if !point_damping::good_damping(damping) {
-        return answers::code(Refusal::of(refusal::DAMPING));
+        return answers::code(Row::of(refusal::DAMPING));
     }
     let d = point_damping::damped_matrix(slices::vector9(matrix, 0), damping);
     let refusal = d.refusal;
@@ -73,10 +73,10 @@ pub fn factor_solve(inverse: &[f64], x: &[f64], out: &mut [f64]) -> u64
     }
     let factor = PointBlockFactor {
         inverse: slices::vector6(inverse, 0),
-        refusal: Refusal::none(),
+        refusal: Row::none(),
     };
     let values = factor.solve(slices::vector3(x, 0));
-    answers::answer(Refusal::none(), &values, out)
+    answers::answer(Row::none(), &values, out)
 }
 
 // inverse: 6; matrix: 9; out: 1
@@ -89,10 +89,10 @@ pub fn reciprocal_condition_number(inverse: &[f64], matrix: &[f64], out: &mut [f
     }
     let factor = PointBlockFactor {
         inverse: slices::vector6(inverse, 0),
-        refusal: Refusal::none(),
+        refusal: Row::none(),
     };
     let values = [factor.reciprocal_condition_number(slices::vector9(matrix, 0))];
-    answers::answer(Refusal::none(), &values, out)
+    answers::answer(Row::none(), &values, out)
 }
 
 // a: 25 numbers, row by row; b: 5; out: 5

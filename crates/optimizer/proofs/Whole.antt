@@ -10,7 +10,7 @@ use lib.Ieee.{Float}
 use Rattle.refusal.specs.Rows as Rows
 use Rattle.refusal.specs.First.{unless, or_else}
 use Rattle.refusal.specs.Refused.{of, is_none}
-use Rattle.refusal.specs.declared.Refusal.{Refusal}
+use Rattle.refusal.specs.declared.Row.{Row}
 use Rattle.solver.specs.Solver.{solve_positive_definite}
 use Rattle.solver.specs.declared.Solved.{Solved}
 use Rattle.reduced_system.specs.Model.{is_valid}
@@ -35,7 +35,7 @@ module _ (p : Problem) (room : List Float) (r : StepResult) (system : ReducedSys
   abbrev Solves : List Float → Type 0
   Solves after = (r ≡ solved_step p) × (after ≡ written p r room)
 
-  pub not_valid : not valid ≡ true → (x : Refusal) → x ≡ of Rows.not_factored → r ≡ not_stepped x → Solves room
+  pub not_valid : not valid ≡ true → (x : Row) → x ≡ of Rows.not_factored → r ≡ not_stepped x → Solves room
   unfolding solved_step written not_stepped is_none
   not_valid t x g h = (h ∙ rw (g, ← e, ← f, not-true valid t) refl, rw (h, g) refl)
 
@@ -43,7 +43,7 @@ module _ (p : Problem) (room : List Float) (r : StepResult) (system : ReducedSys
     same : x ≡ solved_of p
     same = g ∙ ap (λ (s : ReducedSystem). solve_positive_definite s.hessian s.gradient) e
 
-    pub not_solved : not b ≡ true → (y : Refusal) → y ≡ of Rows.not_solved → r ≡ not_stepped y → Solves room
+    pub not_solved : not b ≡ true → (y : Row) → y ≡ of Rows.not_solved → r ≡ not_stepped y → Solves room
     unfolding solved_step written not_stepped is_none
     not_solved u y l h = (h ∙ rw (l, ← same, ← k, ← e, ← f, not-false valid t, not-true b u) refl, rw (h, l) refl)
 
@@ -104,7 +104,7 @@ fits p room t x f b g u =
 -- ---- the ways out of the whole step
 
 module _ (p : Problem) (room : List Float) (r : StepResult) where
-  refuses : (x : Refusal) → is_none x ≡ false → refused p (length room) ≡ x → r ≡ not_stepped x → Done p room r room
+  refuses : (x : Row) → is_none x ≡ false → refused p (length room) ≡ x → r ≡ not_stepped x → Done p room r room
   unfolding step written not_stepped
   refuses x n e h = record {
     result = h ∙ rw (e, n) refl;
@@ -112,7 +112,7 @@ module _ (p : Problem) (room : List Float) (r : StepResult) where
     none_refused = λ y. absurd (true≢false (sym y ∙ ap is_none e ∙ n));
   }
 
-  pub wrong_room : (length room ≡ length p.points → ⊥) → (x : Refusal) → x ≡ of Rows.lengths → r ≡ not_stepped x → Done p room r room
+  pub wrong_room : (length room ≡ length p.points → ⊥) → (x : Row) → x ≡ of Rows.lengths → r ≡ not_stepped x → Done p room r room
   wrong_room t x g h = refuses (of Rows.lengths) (row_refuses Rows.lengths 0 0 refl) (lengths_differ p (length room) t) (h ∙ ap not_stepped g)
 
   module _ (t : length room ≡ length p.points) (x : Reduced) (f : x ≡ reduced p) (b : Bool) (g : b ≡ is_none x.refusal) where

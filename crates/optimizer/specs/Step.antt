@@ -3,7 +3,7 @@ use Rattle.std.specs.Prelude.{ℕ, ◌*◌, ◌<◌, ◌≡◌, true, cond, List
 use Rattle.refusal.specs.Rows as Rows
 use Rattle.refusal.specs.First.{unless, or_else}
 use Rattle.refusal.specs.Refused.{of, none, is_none}
-use Rattle.refusal.specs.declared.Refusal.{Refusal}
+use Rattle.refusal.specs.declared.Row.{Row}
 use Rattle.correspondences.specs.Problem.{Problem, count}
 use Rattle.checks.specs.Checks as Checks
 use Rattle.solver.specs.Solver.{solve_positive_definite}
@@ -37,7 +37,7 @@ solved_step p =
     cond (is_valid (reduced_system p)) (cond (is_none (solved_of p).refusal) (stepped p) (not_stepped (of Rows.not_solved))) (not_stepped (of Rows.not_factored))
 
 -- rows 1 to 9, the room's length included
-unfoldable pub refused : Problem → ℕ → Refusal
+unfoldable pub refused : Problem → ℕ → Row
 refused p room = or_else (unless (eqb room (3 * count p)) (of Rows.lengths)) (Checks.refused p)
 
 -- rows 1 to 11, then the step

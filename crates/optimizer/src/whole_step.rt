@@ -10,7 +10,7 @@ ghost use Rattle.optimizer.specs.Step as Steps;
 
 use correspondences::Rig;
 use reduced_system::ReducedSystem;
-use refusal::Refusal;
+use refusal::Row;
 use step_result::StepResult;
 
 // One step. Tests rows 1 to 11; refused, it leaves the room as it was.
@@ -28,7 +28,7 @@ pub fn step<'a>(
 {
     // Where the two lengths differ, one of them is not 3n; where they do not, `reduced_system` tests both.
     if room.len() != points.len() {
-        return StepResult::not_stepped(Refusal::of(refusal::LENGTHS));
+        return StepResult::not_stepped(Row::of(refusal::LENGTHS));
     }
     let reduced = assembly::reduced_system(points, view1, view2, inverse_deviations, rig, damping);
     let refusal = reduced.refusal;
@@ -66,14 +66,14 @@ fn solved_step(
 {
     let n = inverse_deviations.len() as u32;
     if !system.is_valid() {
-        return StepResult::not_stepped(Refusal::of(refusal::NOT_FACTORED));
+        return StepResult::not_stepped(Row::of(refusal::NOT_FACTORED));
     }
     let hessian = system.hessian;
     let gradient = system.gradient;
     let solved = solver::solve_positive_definite(hessian, gradient);
     let not_solved = solved.refusal;
     if !not_solved.is_none() {
-        return StepResult::not_stepped(Refusal::of(refusal::NOT_SOLVED));
+        return StepResult::not_stepped(Row::of(refusal::NOT_SOLVED));
     }
     let x = solved.x;
     let pose_step = pose_step::pose_step(x);

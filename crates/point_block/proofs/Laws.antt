@@ -14,7 +14,7 @@ use Rattle.number.proofs.Order.{nonneg_above, nonneg_recip}
 use Rattle.extrema.specs.Extrema.{largest}
 use Rattle.refusal.specs.Rows as Rows
 use Rattle.refusal.specs.Refused.{none, is_row_none, is_none}
-use Rattle.refusal.specs.declared.Refusal.{Refusal}
+use Rattle.refusal.specs.declared.Row.{Row}
 use Rattle.cholesky.specs.Cholesky.{invert}
 use Rattle.cholesky.specs.declared.Inverse.{Inverse}
 use Rattle.point_damping.specs.Damping.{floored, good_damping, damped_matrix}
@@ -48,7 +48,7 @@ module _ (m d : List Float) (i : Inverse) (e : d ≡ floored m) (f : i ≡ inver
   unfolding factor_damped
   factored_none r p q = rw (← e, ← f, not-true i.good p) q
 
-  pub factored_some : (r : Refusal) → not i.good ≡ false → r ≡ none → record { inverse = i.values; refusal = r } ≡ factor_damped m
+  pub factored_some : (r : Row) → not i.good ≡ false → r ≡ none → record { inverse = i.values; refusal = r } ≡ factor_damped m
   unfolding factor_damped
   factored_some r p q = rw (← e, ← f, not-false i.good p, q) refl
 
@@ -71,7 +71,7 @@ module _ (m : List Float) (damping : Float) (g : Bool) (t : g ≡ good_damping d
     unfolding lone_factor
     lone_none r q h = rw (← t, not-false g p, ← e, ← u, not-true b q) h
 
-    pub lone_some : (x : Float) (r : Refusal) → not b ≡ false → x ≡ reciprocal_condition_number f.inverse m → r ≡ none
+    pub lone_some : (x : Float) (r : Row) → not b ≡ false → x ≡ reciprocal_condition_number f.inverse m → r ≡ none
         → record { inverse = f.inverse; rcond = x; refusal = r } ≡ lone_factor m damping
     unfolding lone_factor
     lone_some x r q h k = rw (← t, not-false g p, ← e, ← u, not-false b q, h, k) refl

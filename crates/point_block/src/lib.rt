@@ -10,14 +10,14 @@ ghost use Rattle.point_block.specs.Condition as Condition;
 ghost use Rattle.point_block.specs.Factor as Factor;
 ghost use Rattle.point_block.specs.Lone as Lone;
 
-use refusal::Refusal;
+use refusal::Row;
 
 // The inverse of a symmetric 3 by 3 block, packed lower triangle: 00, 10, 11, 20, 21, 22. Beside a
 // refusal every number is +0, here and in the struct below.
 #[derive(Clone, Copy)]
 pub struct PointBlockFactor {
     pub inverse: [f64; 6],
-    pub refusal: Refusal,
+    pub refusal: Row,
 }
 
 // A factor with its rcond: document 01's lone factor
@@ -25,7 +25,7 @@ pub struct PointBlockFactor {
 pub struct LoneFactor {
     pub inverse: [f64; 6],
     pub rcond: f64,
-    pub refusal: Refusal,
+    pub refusal: Row,
 }
 
 impl PointBlockFactor {
@@ -45,7 +45,7 @@ impl PointBlockFactor {
         LoneFactor {
             inverse,
             rcond: factor.reciprocal_condition_number(matrix),
-            refusal: Refusal::none(),
+            refusal: Row::none(),
         }
     }
 
@@ -73,7 +73,7 @@ impl PointBlockFactor {
         let inverse = inverted.values;
         Self {
             inverse,
-            refusal: Refusal::none(),
+            refusal: Row::none(),
         }
     }
 
@@ -122,7 +122,7 @@ fn not_factored() -> PointBlockFactor
 {
     PointBlockFactor {
         inverse: [0.0; 6],
-        refusal: Refusal::of(refusal::NOT_FACTORED),
+        refusal: Row::of(refusal::NOT_FACTORED),
     }
 }
 
@@ -132,7 +132,7 @@ fn lone_refused(row: u32) -> LoneFactor
     LoneFactor {
         inverse: [0.0; 6],
         rcond: 0.0,
-        refusal: Refusal::of(row),
+        refusal: Row::of(row),
     }
 }
 

@@ -13,7 +13,7 @@ use Rattle.extrema.specs.Extrema.{Larger}
 use Rattle.extrema.proofs.Laws.{nonneg_largest}
 use Rattle.refusal.specs.Rows as Rows
 use Rattle.refusal.specs.Refused.{of, none, is_none}
-use Rattle.refusal.specs.declared.Refusal.{Refusal}
+use Rattle.refusal.specs.declared.Row.{Row}
 use Rattle.point_damping.specs.declared.DampingDiagonal.{DampingDiagonal}
 use Rattle.point_damping.specs.Damping.{largest_diagonal, floored, damping_diagonal, added_diagonal, damped_matrix}
 
@@ -35,7 +35,7 @@ floored_is m scale a b c e p q r =
 
 -- ---- the answers, by the tests that lead to each
 
-module _ (m : List Float) (s : Float) (b : Bool) (r : Refusal) (e : s ≡ largest_diagonal m) (t : b ≡ positive_finite s) where
+module _ (m : List Float) (s : Float) (b : Bool) (r : Row) (e : s ≡ largest_diagonal m) (t : b ≡ positive_finite s) where
   pub diagonal_none : not b ≡ true → r ≡ of Rows.not_factored → record { values = zeros 3; refusal = r } ≡ damping_diagonal m
   unfolding damping_diagonal
   diagonal_none p q = rw (← e, ← t, not-true b p, q) refl

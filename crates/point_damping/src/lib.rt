@@ -8,19 +8,19 @@
 ghost use Rattle.std.specs.Prelude.{◌≡◌};
 ghost use Rattle.point_damping.specs.Damping as Damping;
 
-use refusal::Refusal;
+use refusal::Row;
 
 // What damping is multiplied with. Beside a refusal every number is +0, here and in the struct below.
 #[derive(Clone, Copy)]
 pub struct DampingDiagonal {
     pub values: [f64; 3],
-    pub refusal: Refusal,
+    pub refusal: Row,
 }
 
 #[derive(Clone, Copy)]
 pub struct DampedMatrix {
     pub matrix: [f64; 9],
-    pub refusal: Refusal,
+    pub refusal: Row,
 }
 
 // Row 3 lets a damping through that is finite and not below 0.
@@ -55,12 +55,12 @@ pub fn damping_diagonal(matrix: [f64; 9]) -> DampingDiagonal
     if !number::positive_finite(scale) {
         return DampingDiagonal {
             values: [0.0; 3],
-            refusal: Refusal::of(refusal::NOT_FACTORED),
+            refusal: Row::of(refusal::NOT_FACTORED),
         };
     }
     DampingDiagonal {
         values: floored(matrix, scale),
-        refusal: Refusal::none(),
+        refusal: Row::none(),
     }
 }
 

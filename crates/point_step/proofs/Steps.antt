@@ -6,7 +6,7 @@ use borrow.Author.Tests.{not-true, not-false}
 use lib.Ieee.{Float}
 use Rattle.refusal.specs.Rows as Rows
 use Rattle.refusal.specs.Refused.{none, is_none}
-use Rattle.refusal.specs.declared.Refusal.{Refusal}
+use Rattle.refusal.specs.declared.Row.{Row}
 use Rattle.point_damping.specs.Damping.{good_damping, damping_diagonal}
 use Rattle.point_damping.specs.declared.DampingDiagonal.{DampingDiagonal}
 use Rattle.point_block.specs.Lone.{factor}
@@ -15,7 +15,7 @@ use Rattle.linearization.specs.declared.terms.PointTerms.{PointTerms}
 use Rattle.point_step.specs.declared.PointStep.{PointStep}
 use Rattle.point_step.specs.PointStep.{step_of, damping_norm, stepped, not_stepped, step_of_terms}
 
-pub stepped_is : (i : List Float) (b : PointTerms) (p x : List Float) (d : DampingDiagonal) (n : Float) (r : Refusal) → x ≡ step_of i b p
+pub stepped_is : (i : List Float) (b : PointTerms) (p x : List Float) (d : DampingDiagonal) (n : Float) (r : Row) → x ≡ step_of i b p
     → d ≡ damping_diagonal b.point_hessian → n ≡ damping_norm d.values x → r ≡ none → record { step = x; damping_norm = n; refusal = r } ≡ stepped i b p
 unfolding stepped
 stepped_is i b p x d n r ex ed en er = rw (← ex, ← ed, ← en, er) refl

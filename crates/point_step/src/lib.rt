@@ -9,14 +9,14 @@ ghost use Rattle.point_step.specs.PointStep as Steps;
 
 use linearization::{LocalLinearization, PointTerms};
 use point_block::PointBlockFactor;
-use refusal::Refusal;
+use refusal::Row;
 
 // A point's step and its damping norm; beside a refusal every number is +0.
 #[derive(Clone, Copy)]
 pub struct PointStep {
     pub step: [f64; 3],
     pub damping_norm: f64,
-    pub refusal: Refusal,
+    pub refusal: Row,
 }
 
 // Tests row 3, then row 10.
@@ -52,7 +52,7 @@ fn not_stepped(row: u32) -> PointStep
     PointStep {
         step: [0.0; 3],
         damping_norm: 0.0,
-        refusal: Refusal::of(row),
+        refusal: Row::of(row),
     }
 }
 
@@ -66,7 +66,7 @@ fn stepped(factor: PointBlockFactor, terms: PointTerms, pose_step: [f64; 5]) -> 
     PointStep {
         step,
         damping_norm: damping_norm(values, step),
-        refusal: Refusal::none(),
+        refusal: Row::none(),
     }
 }
 

@@ -8,7 +8,7 @@
 ghost use Rattle.std.specs.Prelude.{◌≡◌};
 ghost use Rattle.projection.specs.Projection as Projection;
 
-use refusal::Refusal;
+use refusal::Row;
 
 #[derive(Clone, Copy)]
 pub struct PinholeCamera {
@@ -25,7 +25,7 @@ pub struct PinholeCamera {
 pub struct Projected {
     pub residual: [f64; 2],
     pub jacobian: [f64; 6],
-    pub refusal: Refusal,
+    pub refusal: Row,
 }
 
 // The projection of a point in the camera's frame, less what was observed.
@@ -75,7 +75,7 @@ fn linearized(camera: PinholeCamera, observation: [f64; 2], point: [f64; 3]) -> 
             camera.fy * inverse_depth,
             -camera.fy * point[1] * inverse_depth_squared,
         ],
-        refusal: Refusal::none(),
+        refusal: Row::none(),
     }
 }
 
@@ -100,6 +100,6 @@ fn not_projectable() -> Projected
     Projected {
         residual: [0.0; 2],
         jacobian: [0.0; 6],
-        refusal: Refusal::of(refusal::PROJECTION),
+        refusal: Row::of(refusal::PROJECTION),
     }
 }

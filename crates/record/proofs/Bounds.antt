@@ -12,7 +12,7 @@ use lib.Seq.{take_at}
 use lib.Ieee.{Float, binary64, to_bits}
 use Rattle.number.proofs.Fill.{length_tabulate}
 use Rattle.refusal.specs.Refused.{is_none}
-use Rattle.refusal.specs.declared.Refusal.{Refusal}
+use Rattle.refusal.specs.declared.Row.{Row}
 use Rattle.refusal.proofs.Scans.{after_none}
 use Rattle.correspondences.specs.Problem.{Problem, count}
 use Rattle.reduced_system.specs.Model.{is_valid}
@@ -132,7 +132,7 @@ sum_length s h =
     let k = three s.weak_point_count h in
     omega arith
 
-refused_length : (r : Refusal) → length (refused_line r) ≤ 41
+refused_length : (r : Row) → length (refused_line r) ≤ 41
 unfolding refused_line
 refused_length r =
     let x : List ℕ = 114 ∷ 101 ∷ 102 ∷ 117 ∷ 115 ∷ 101 ∷ 100 ∷ space ∷ [] in

@@ -5,7 +5,7 @@ use mathlib.Core.List.{List}
 use Prim.Native.Nat.{ℕ}
 use borrow.Author.Tests.{not-true, not-false}
 use Rattle.refusal.specs.Refused.{is_none}
-use Rattle.refusal.specs.declared.Refusal.{Refusal}
+use Rattle.refusal.specs.declared.Row.{Row}
 use Rattle.assembly.specs.Assembly.{reduced}
 use Rattle.assembly.specs.declared.Reduced.{Reduced}
 use Rattle.assembly.proofs.Systems.{refused_system, given_system}
@@ -15,7 +15,7 @@ use Rattle.lines.specs.Lines.{refused_line}
 use Rattle.run.specs.Run.{run}
 use Rattle.record.specs.Lists.{lines_of, refused, list}
 
-module _ (r : List ℕ) (v : Refusal) (e : v ≡ Form.refused r) (b : Bool) (f : b ≡ is_none v) where
+module _ (r : List ℕ) (v : Row) (e : v ≡ Form.refused r) (b : Bool) (f : b ≡ is_none v) where
   pub form_refused : not b ≡ true → refused_line v ≡ list r
   unfolding list refused
   form_refused t = rw (← e, ← f, not-true b t, ← f, not-true b t) refl

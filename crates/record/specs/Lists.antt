@@ -3,7 +3,7 @@ use Rattle.std.specs.Prelude.{ℕ, zero, suc, ◌≤◌, ◌≡◌, false, cond,
 use Rattle.std.specs.Float.Ieee.{is_nan}
 use Rattle.refusal.specs.Refused.{is_none}
 use Rattle.refusal.specs.First.{or_else}
-use Rattle.refusal.specs.declared.Refusal.{Refusal}
+use Rattle.refusal.specs.declared.Row.{Row}
 use Rattle.correspondences.specs.declared.Rig.{Rig}
 use Rattle.correspondences.specs.Problem.{Problem}
 use Rattle.reduced_system.specs.declared.ReducedSystem.{ReducedSystem}
@@ -32,7 +32,7 @@ unfoldable pub lines_of : List ℕ → ReducedSystem → List ℕ
 lines_of r s = run_line (point_fields r) (damping r) ++ point_lines (run r) (point_fields r) ++ sum_line s
 
 -- Rows 14 and 15, then the checks of the run. Of these rows 1 and 2 cannot come up (`checks_from_row_3`): the lists are made with as many numbers as the point fields ask for, and a record within `max_record` has 512 points at most.
-unfoldable pub refused : List ℕ → Refusal
+unfoldable pub refused : List ℕ → Row
 refused r = or_else (Form.refused r) (Checks.refused (run r))
 
 unfoldable pub list : List ℕ → List ℕ

@@ -3,7 +3,7 @@ use Rattle.std.specs.Prelude.{ℕ, ◌+◌, ◌*◌, ◌≤◌, ◌≡◌, Bool,
 use Rattle.refusal.specs.Rows as Rows
 use Rattle.refusal.specs.Refused.{at, of}
 use Rattle.refusal.specs.First.{unless, first_of, first}
-use Rattle.refusal.specs.declared.Refusal.{Refusal}
+use Rattle.refusal.specs.declared.Row.{Row}
 use Rattle.fields.specs.Fields.{byte, camera1_at, camera2_at, pose_at, basis_at, damping_at, point_at, point_fields}
 
 -- the most bytes of a record: 512 points
@@ -15,11 +15,11 @@ unfoldable pub is_whole : List ℕ → ℕ → ℕ → ℕ → Bool
 is_whole r tag size start = leb (start + 3 + size) (length r) && eqb (byte r start) tag && eqb (byte r (start + 1) + 256 * byte r (start + 2)) size
 
 -- row 15: the index is the byte where the broken field begins, which is the record's length if it ends there
-abbrev pub field_refused : List ℕ → ℕ → ℕ → ℕ → Refusal
+abbrev pub field_refused : List ℕ → ℕ → ℕ → ℕ → Row
 field_refused r tag size start = unless (is_whole r tag size start) (at Rows.record_form 0 start)
 
 -- row 15 for the five fields before the points
-abbrev pub header_refused : List ℕ → Refusal
+abbrev pub header_refused : List ℕ → Row
 header_refused r =
     first_of (
     field_refused r 1 40 camera1_at
@@ -30,7 +30,7 @@ header_refused r =
     ∷ [])
 
 -- rows 14 and 15
-unfoldable pub refused : List ℕ → Refusal
+unfoldable pub refused : List ℕ → Row
 refused r =
     first_of (
     unless (leb (length r) max_record) (of Rows.record_too_long)

@@ -5,17 +5,17 @@ ghost use Rattle.fields.specs.Fields as Fields;
 ghost use Rattle.record_form.specs.Form as Form;
 
 use crate::reader;
-use refusal::Refusal;
+use refusal::Row;
 
 // The most bytes of a record: 512 points
 pub const MAX_RECORD: usize = 34559;
 
 // Rows 14 and 15
-pub fn refused(record: &[u8]) -> Refusal
+pub fn refused(record: &[u8]) -> Row
     ensures { result ≡ Form.refused «record».now }
 {
     if !(record.len() <= MAX_RECORD) {
-        return Refusal::of(refusal::RECORD_TOO_LONG);
+        return Row::of(refusal::RECORD_TOO_LONG);
     }
     let header = reader::header_refused(record);
     if !header.is_none() {
@@ -25,7 +25,7 @@ pub fn refused(record: &[u8]) -> Refusal
 }
 
 // Row 15 for each point's field
-fn points_refused(record: &[u8]) -> Refusal
+fn points_refused(record: &[u8]) -> Row
     requires { length «record».now ≤ Form.max_record }
     ensures { result ≡ First.first (λ i. Form.field_refused «record».now 6 64 (Fields.point_at i)) 0 (Fields.point_fields «record».now) }
 {
@@ -40,18 +40,18 @@ fn points_refused(record: &[u8]) -> Refusal
             return refusal;
         }
     }
-    Refusal::none()
+    Row::none()
 }
 
 // Row 15 for the field that begins there
-pub(crate) fn test_field(record: &[u8], tag: u8, size: usize, start: usize) -> Refusal
+pub(crate) fn test_field(record: &[u8], tag: u8, size: usize, start: usize) -> Row
     requires { (start ≤ 40000) × (size ≤ 100) }
     ensures { result ≡ Form.field_refused «record».now tag size start }
 {
     if !is_whole(record, tag, size, start) {
-        return Refusal::at(refusal::RECORD_FORM, 0, start as u32);
+        return Row::at(refusal::RECORD_FORM, 0, start as u32);
     }
-    Refusal::none()
+    Row::none()
 }
 
 // Whether the field that begins there has this tag and this size, and ends within the record

@@ -5,7 +5,7 @@ ghost use Rattle.record_form.specs.Form as Form;
 ghost use Rattle.record_form.specs.Reads as Reads;
 
 use crate::form;
-use refusal::Refusal;
+use refusal::Row;
 
 #[derive(Clone, Copy)]
 pub(crate) struct Reader<'a> {
@@ -14,7 +14,7 @@ pub(crate) struct Reader<'a> {
 }
 
 // Row 15 for the field at the reader's place
-pub(crate) fn next_field<'a>(reader: Reader<'a>, tag: u8, size: usize) -> Refusal
+pub(crate) fn next_field<'a>(reader: Reader<'a>, tag: u8, size: usize) -> Row
     requires { (reader.at ≤ 40000) × (size ≤ 100) }
     ensures { result ≡ Form.field_refused reader.entry.«record».now tag size reader.entry.at }
 {
@@ -33,7 +33,7 @@ pub(crate) fn past<'a>(reader: Reader<'a>, size: usize) -> Reader<'a>
 }
 
 // Row 15 for the five fields before the points, read one after the other
-pub(crate) fn header_refused(record: &[u8]) -> Refusal
+pub(crate) fn header_refused(record: &[u8]) -> Row
     ensures { result ≡ Form.header_refused «record».now }
 {
     let camera1 = Reader { record, at: 0 };
@@ -51,7 +51,7 @@ pub(crate) fn header_refused(record: &[u8]) -> Refusal
 }
 
 // Row 15 for the field at a place
-pub(crate) fn field_refused(record: &[u8], tag: u8, size: usize, start: usize) -> Refusal
+pub(crate) fn field_refused(record: &[u8], tag: u8, size: usize, start: usize) -> Row
     requires { (start ≤ 40000) × (size ≤ 100) }
     ensures { result ≡ Form.field_refused «record».now tag size start }
 {

@@ -8,7 +8,7 @@
 ghost use Rattle.std.specs.Prelude.{◌≡◌};
 ghost use Rattle.reduced_system.specs.Model as Model;
 
-use refusal::Refusal;
+use refusal::Row;
 
 #[derive(Clone, Copy)]
 pub struct ReducedSystem {
@@ -30,14 +30,14 @@ pub struct ReducedSystem {
 #[derive(Clone, Copy)]
 pub struct Added {
     pub system: ReducedSystem,
-    pub refusal: Refusal,
+    pub refusal: Row,
 }
 
 // What a step is predicted to gain; beside a refusal +0
 #[derive(Clone, Copy)]
 pub struct Predicted {
     pub reduction: f64,
-    pub refusal: Refusal,
+    pub refusal: Row,
 }
 
 impl ReducedSystem {
@@ -67,14 +67,14 @@ impl ReducedSystem {
         if !point_damping::good_damping(damping) {
             return Added {
                 system: self,
-                refusal: Refusal::of(refusal::DAMPING),
+                refusal: Row::of(refusal::DAMPING),
             };
         }
         let h = self.hessian;
         let d = self.pose_diagonal;
         Added {
             system: self.with_hessian(pose_damping::damped_hessian(h, d, damping)),
-            refusal: Refusal::none(),
+            refusal: Row::none(),
         }
     }
 
@@ -111,12 +111,12 @@ impl ReducedSystem {
         if !point_damping::good_damping(damping) {
             return Predicted {
                 reduction: 0.0,
-                refusal: Refusal::of(refusal::DAMPING),
+                refusal: Row::of(refusal::DAMPING),
             };
         }
         Predicted {
             reduction: self.reduction_of(step, damping, point_damping_norm),
-            refusal: Refusal::none(),
+            refusal: Row::none(),
         }
     }
 

@@ -1,14 +1,19 @@
 -- The refusals: a row's number, a view and an index, the last two 0 where they have no sense. Row 0 refuses nothing.
 use Rattle.std.specs.Prelude.{ℕ, zero, suc, Bool, true, false}
+use Rattle.refusal.specs.Rows as Rows
+use Rattle.refusal.specs.declared.Row.{Row}
+use Rattle.refusal.specs.declared.View.{View}
+use Rattle.refusal.specs.declared.View.TheVariants.{First, Second}
 use Rattle.refusal.specs.declared.Refusal.{Refusal}
+use Rattle.refusal.specs.declared.Refusal.TheVariants.{Lengths, TooManyPoints, Damping, InverseDeviation, Baseline, Point, TooFewPoints, Observation, LoneProjection, Projection, NotFactored, NotSolved, WeakCount, Full, RecordTooLong, RecordForm}
 
-abbrev pub at : ℕ → ℕ → ℕ → Refusal
+abbrev pub at : ℕ → ℕ → ℕ → Row
 at number view index = record { number = number; view = view; index = index }
 
-abbrev pub of : ℕ → Refusal
+abbrev pub of : ℕ → Row
 of number = at number 0 0
 
-abbrev pub none : Refusal
+abbrev pub none : Row
 none = of 0
 
 -- row 0 and no other
@@ -16,5 +21,29 @@ abbrev pub is_row_none : ℕ → Bool
 is_row_none zero = true
 is_row_none (suc n) = false
 
-unfoldable pub is_none : Refusal → Bool
+unfoldable pub is_none : Row → Bool
 is_none r = is_row_none r.number
+
+-- ---- the kinds of refusal, by number, view and index
+
+abbrev pub view_number : View → ℕ
+view_number First = 1
+view_number Second = 2
+
+unfoldable pub row : Refusal → Row
+row Lengths = of Rows.lengths
+row TooManyPoints = of Rows.too_many_points
+row Damping = of Rows.damping
+row (InverseDeviation i) = at Rows.inverse_deviation 0 i
+row Baseline = of Rows.baseline
+row (Point i) = at Rows.point 0 i
+row TooFewPoints = of Rows.too_few_points
+row (Observation v i) = at Rows.observation (view_number v) i
+row LoneProjection = of Rows.projection
+row (Projection v i) = at Rows.projection (view_number v) i
+row NotFactored = of Rows.not_factored
+row NotSolved = of Rows.not_solved
+row WeakCount = of Rows.weak_count
+row Full = of Rows.full
+row RecordTooLong = of Rows.record_too_long
+row (RecordForm i) = at Rows.record_form 0 i

@@ -5,6 +5,9 @@
 ghost use Rattle.std.specs.Prelude.{◌≡◌};
 ghost use Rattle.refusal.specs.Refused as Refused;
 
+use std::error::Error;
+use std::fmt;
+
 // The rows, "Refusals by number"
 pub const LENGTHS: u32 = 1;
 
@@ -36,14 +39,92 @@ pub const RECORD_TOO_LONG: u32 = 14;
 
 pub const RECORD_FORM: u32 = 15;
 
-#[derive(Clone, Copy)]
-pub struct Refusal {
+// One of the two views of a point
+#[derive(Clone, Copy, Debug, PartialEq, Eq)]
+pub enum View {
+    First,
+    Second,
+}
+
+// Why a call gives no result. An index is that of a point, and counts from 0.
+#[derive(Clone, Copy, Debug, PartialEq, Eq)]
+pub enum Refusal {
+    Lengths,
+    TooManyPoints,
+    Damping,
+    InverseDeviation { index: u32 },
+    Baseline,
+    Point { index: u32 },
+    TooFewPoints,
+    Observation { view: View, index: u32 },
+    // of a point in one camera alone
+    LoneProjection,
+    Projection { view: View, index: u32 },
+    NotFactored,
+    NotSolved,
+    WeakCount,
+    Full,
+    RecordTooLong,
+    // the broken field begins at this byte
+    RecordForm { start: u32 },
+}
+
+// A refusal by its numbers: the row, the view and the index, the last two 0 where they have no sense
+#[derive(Clone, Copy, Debug, PartialEq, Eq)]
+pub struct Row {
     pub number: u32,
     pub view: u32,
     pub index: u32,
 }
 
+impl View {
+    pub fn number(self) -> u32
+        ensures { result ≡ Refused.view_number self }
+    {
+        match self {
+            View::First => 1,
+            View::Second => 2,
+        }
+    }
+}
+
 impl Refusal {
+    #[tactic(auto, unfolding(crate::specs::Refused::row))]
+    pub fn row(self) -> Row
+        ensures { result ≡ Refused.row self }
+    {
+        match self {
+            Refusal::Lengths => Row::of(1),
+            Refusal::TooManyPoints => Row::of(2),
+            Refusal::Damping => Row::of(3),
+            Refusal::InverseDeviation { index } => Row::at(4, 0, index),
+            Refusal::Baseline => Row::of(5),
+            Refusal::Point { index } => Row::at(6, 0, index),
+            Refusal::TooFewPoints => Row::of(7),
+            Refusal::Observation { view, index } => Row::at(8, view.number(), index),
+            Refusal::LoneProjection => Row::of(9),
+            Refusal::Projection { view, index } => Row::at(9, view.number(), index),
+            Refusal::NotFactored => Row::of(10),
+            Refusal::NotSolved => Row::of(11),
+            Refusal::WeakCount => Row::of(12),
+            Refusal::Full => Row::of(13),
+            Refusal::RecordTooLong => Row::of(14),
+            Refusal::RecordForm { start } => Row::at(15, 0, start),
+        }
+    }
+}
+
+// `refused`, number, view, index
+impl fmt::Display for Refusal {
+    fn fmt<W: fmt::Write>(&self, f: &mut fmt::Formatter<W>) -> fmt::Result {
+        let row = self.row();
+        write!(f, "refused {} {} {}", row.number, row.view, row.index)
+    }
+}
+
+impl Error for Refusal {}
+
+impl Row {
     // The refusal of a row at a view and an index: the one place where a refusal is made.
     pub fn at(number: u32, view: u32, index: u32) -> Self
         ensures { result ≡ Refused.at number view index }

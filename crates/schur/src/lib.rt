@@ -10,7 +10,7 @@ ghost use Rattle.list_of_adds.specs.System as System;
 use block_elimination::Change;
 use linearization::LocalLinearization;
 use reduced_system::{Added, ReducedSystem};
-use refusal::Refusal;
+use refusal::Row;
 
 // The most blocks that a system takes in
 const MAX_BLOCKS: u16 = 65535;
@@ -22,25 +22,25 @@ pub fn add(system: ReducedSystem, local: LocalLinearization, damping: f64) -> Ad
     if !point_damping::good_damping(damping) {
         return Added {
             system,
-            refusal: Refusal::of(refusal::DAMPING),
+            refusal: Row::of(refusal::DAMPING),
         };
     }
     if !(system.weak_point_count <= system.block_count) {
         return Added {
             system,
-            refusal: Refusal::of(refusal::WEAK_COUNT),
+            refusal: Row::of(refusal::WEAK_COUNT),
         };
     }
     if !(system.block_count < MAX_BLOCKS) {
         return Added {
             system,
-            refusal: Refusal::of(refusal::FULL),
+            refusal: Row::of(refusal::FULL),
         };
     }
     let next = taken(system, local, damping);
     Added {
         system: next,
-        refusal: Refusal::none(),
+        refusal: Row::none(),
     }
 }
 

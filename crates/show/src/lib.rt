@@ -2,7 +2,7 @@
 // refusals as three numbers.
 #![tactic(auto)]
 
-use refusal::Refusal;
+use refusal::Row;
 use std::io;
 
 // A line: a figure's name and its value's pattern
@@ -38,7 +38,7 @@ pub fn count(rt: &impl Print, n: u64) -> io::Result<()> {
 }
 
 // ` refused`, number, view, index
-pub fn refused(rt: &impl Print, refusal: Refusal) -> io::Result<()> {
+pub fn refused(rt: &impl Print, refusal: Row) -> io::Result<()> {
     rt.write_all(b" refused")?;
     count(rt, refusal.number as u64)?;
     count(rt, refusal.view as u64)?;
@@ -46,7 +46,7 @@ pub fn refused(rt: &impl Print, refusal: Refusal) -> io::Result<()> {
 }
 
 // The same, where there is one
-pub fn refused_if(rt: &impl Print, refusal: Refusal) -> io::Result<()> {
+pub fn refused_if(rt: &impl Print, refusal: Row) -> io::Result<()> {
     if !refusal.is_none() {
         refused(rt, refusal)?;
     }

@@ -1,14 +1,13 @@
 -- `solve_positive_definite` of solver.rs at 5, row by row in the Rust's order. The products of an entry are summed from −0, an empty sum too: a − (−0) turns −0 into +0.
-use Rattle.std.specs.Prelude.{Bool, not, ◌&&◌, cond, List, [], ◌∷◌, Float}
+use Rattle.std.specs.Prelude.{Bool, not, ◌&&◌, cond, List, [], ◌∷◌, Float, Result, Ok, Err}
 use Rattle.std.specs.Float.Ieee.{le}
 use Rattle.number.specs.Binary64.{◌⊖◌, ◌⊗◌, ◌⊘◌, zero}
 use Rattle.root.specs.Root.{sqrt}
-use Rattle.number.specs.Vectors.{◌!◌, sum, all_finite, zeros}
-use Rattle.refusal.specs.Rows as Rows
-use Rattle.refusal.specs.Refused.{of, none}
+use Rattle.number.specs.Vectors.{◌!◌, sum, all_finite}
+use Rattle.refusal.specs.declared.Refusal.{Refusal}
+use Rattle.refusal.specs.declared.Refusal.TheVariants.{NotSolved}
 use Rattle.solver.specs.declared.Row.{Row}
 use Rattle.solver.specs.declared.Lower.{Lower}
-use Rattle.solver.specs.declared.Solved.{Solved}
 
 -- The rows of the lower triangle: an entry left of the diagonal is its sum divided by the diagonal entry above, and the diagonal entry is the root of its sum, the pivot.
 unfoldable pub row0 : List Float → Row
@@ -99,10 +98,8 @@ unfoldable pub solution : Lower → List Float → List Float
 solution l b = backward l (forward l b)
 
 -- Row 11 where any input, any sum or any result is not finite or a pivot ≤ 0. The Rust leaves at the first of these; what it would have worked out afterwards decides nothing.
-unfoldable pub solve_positive_definite : List Float → List Float → Solved
+unfoldable pub solve_positive_definite : List Float → List Float → Result (List Float) Refusal
 solve_positive_definite a b =
     let l = lower_of a in
     let x = solution l b in
-    cond (all_finite a && all_finite b && good_rows l && all_finite x)
-    (record { x = x; refusal = none })
-    (record { x = zeros 5; refusal = of Rows.not_solved })
+    cond (all_finite a && all_finite b && good_rows l && all_finite x) (Ok x) (Err NotSolved)

@@ -5,17 +5,9 @@
 #![tactic(auto)]
 
 ghost use Rattle.std.specs.Prelude.{◌≡◌};
-ghost use Rattle.number.specs.Vectors as Vectors;
 ghost use Rattle.solver.specs.Solver as Solver;
 
 use refusal::Refusal;
-
-// The solution. Beside a refusal every number is +0.
-#[derive(Clone, Copy)]
-pub struct Solved {
-    pub x: [f64; 5],
-    pub refusal: Refusal,
-}
 
 // A row of the lower triangle, and the sums that its entries were made from. What lies right of the
 // diagonal is +0.
@@ -41,24 +33,20 @@ struct Lower {
 
 // The solution of a x = b by Cholesky's method. Row 11 where an input, a sum or a result is not finite
 // or a pivot is not above 0.
-pub fn solve_positive_definite(a: [f64; 25], b: [f64; 5]) -> Solved
+#[tactic(auto, unfolding(crate::specs::Solver::solve_positive_definite))]
+pub fn solve_positive_definite(a: [f64; 25], b: [f64; 5]) -> Result<[f64; 5], Refusal>
     ensures { result ≡ Solver.solve_positive_definite a b }
 {
     let lower = lower_of(a);
     let x = solution(lower, b);
-    if finite25(a) & finite5(b) & good_rows(lower) & finite5(x) {
-        Solved {
-            x,
-            refusal: Refusal::none(),
-        }
-    } else {
-        Solved {
-            x: [0.0; 5],
-            refusal: Refusal::of(refusal::NOT_SOLVED),
-        }
-    }
+    let good = vectors::all_finite(&a)
+        & vectors::all_finite(&b)
+        & good_rows(lower)
+        & vectors::all_finite(&x);
+    if good { Ok(x) } else { Err(Refusal::NotSolved) }
 }
 
+#[tactic(auto, unfolding(crate::specs::Solver::lower_of))]
 fn lower_of(a: [f64; 25]) -> Lower
     ensures { result ≡ Solver.lower_of a }
 {
@@ -70,12 +58,14 @@ fn lower_of(a: [f64; 25]) -> Lower
     Lower { r0, r1, r2, r3, r4 }
 }
 
+#[tactic(auto, unfolding(crate::specs::Solver::solution))]
 fn solution(lower: Lower, b: [f64; 5]) -> [f64; 5]
     ensures { result ≡ Solver.solution lower b }
 {
     backward(lower, forward(lower, b))
 }
 
+#[tactic(auto, unfolding(crate::specs::Solver::good_rows))]
 fn good_rows(lower: Lower) -> bool
     ensures { result ≡ Solver.good_rows lower }
 {
@@ -92,24 +82,14 @@ fn good_rows(lower: Lower) -> bool
 }
 
 // Whether every sum of a row is finite and its pivot is above 0.
+#[tactic(auto, unfolding(crate::specs::Solver::good_sums))]
 fn good_sums(sums: [f64; 5], pivot: f64) -> bool
     ensures { result ≡ Solver.good_sums sums pivot }
 {
-    finite5(sums) & !(pivot <= 0.0)
+    vectors::all_finite(&sums) & !(pivot <= 0.0)
 }
 
-fn finite5(x: [f64; 5]) -> bool
-    ensures { result ≡ Vectors.all_finite x }
-{
-    vectors::all_finite(&x)
-}
-
-fn finite25(x: [f64; 25]) -> bool
-    ensures { result ≡ Vectors.all_finite x }
-{
-    vectors::all_finite(&x)
-}
-
+#[tactic(auto, unfolding(crate::specs::Solver::row0))]
 fn row0(a: [f64; 25]) -> Row
     ensures { result ≡ Solver.row0 a }
 {
@@ -124,6 +104,7 @@ fn row0(a: [f64; 25]) -> Row
     }
 }
 
+#[tactic(auto, unfolding(crate::specs::Solver::row1))]
 fn row1(a: [f64; 25], r0: Row) -> Row
     ensures { result ≡ Solver.row1 a r0 }
 {
@@ -140,6 +121,7 @@ fn row1(a: [f64; 25], r0: Row) -> Row
     }
 }
 
+#[tactic(auto, unfolding(crate::specs::Solver::row2))]
 fn row2(a: [f64; 25], r0: Row, r1: Row) -> Row
     ensures { result ≡ Solver.row2 a r0 r1 }
 {
@@ -158,6 +140,7 @@ fn row2(a: [f64; 25], r0: Row, r1: Row) -> Row
     }
 }
 
+#[tactic(auto, unfolding(crate::specs::Solver::row3))]
 fn row3(a: [f64; 25], r0: Row, r1: Row, r2: Row) -> Row
     ensures { result ≡ Solver.row3 a r0 r1 r2 }
 {
@@ -178,6 +161,7 @@ fn row3(a: [f64; 25], r0: Row, r1: Row, r2: Row) -> Row
     }
 }
 
+#[tactic(auto, unfolding(crate::specs::Solver::row4))]
 fn row4(a: [f64; 25], r0: Row, r1: Row, r2: Row, r3: Row) -> Row
     ensures { result ≡ Solver.row4 a r0 r1 r2 r3 }
 {
@@ -201,6 +185,7 @@ fn row4(a: [f64; 25], r0: Row, r1: Row, r2: Row, r3: Row) -> Row
 }
 
 // L y = b
+#[tactic(auto, unfolding(crate::specs::Solver::forward))]
 fn forward(l: Lower, b: [f64; 5]) -> [f64; 5]
     ensures { result ≡ Solver.forward l b }
 {
@@ -213,6 +198,7 @@ fn forward(l: Lower, b: [f64; 5]) -> [f64; 5]
 }
 
 // Lᵀ x = y
+#[tactic(auto, unfolding(crate::specs::Solver::backward))]
 fn backward(l: Lower, y: [f64; 5]) -> [f64; 5]
     ensures { result ≡ Solver.backward l y }
 {

@@ -8,7 +8,7 @@ ghost use Rattle.answers.specs.Answers as Answers;
 ghost use Rattle.flat.specs.Flat as Flat;
 ghost use Rattle.step_calls.specs.Calls as Calls;
 
-use refusal::Refusal;
+use refusal::Row;
 use step_result::StepResult;
 
 // For n points: points and room 3n, views 2n each, inverse deviations n; rig: 29; out: 12; weak: 1
@@ -43,7 +43,7 @@ pub fn limit_pose_step(x: &[f64], out: &mut [f64]) -> u64
         return answers::lengths();
     }
     let values = pose_step::limit_pose_step(slices::vector5(x, 0));
-    answers::answer(Refusal::none(), &values, out)
+    answers::answer(Row::none(), &values, out)
 }
 
 // Stores numbers and weak count where nothing was refused, and answers the refusal's code.

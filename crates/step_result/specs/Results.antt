@@ -6,7 +6,7 @@ use Rattle.number.specs.Binary64.{◌⊘◌, zero as zero·}
 use Rattle.number.specs.Vectors.{tabulate}
 use Rattle.root.specs.Root.{sqrt}
 use Rattle.refusal.specs.Refused.{none}
-use Rattle.refusal.specs.declared.Refusal.{Refusal}
+use Rattle.refusal.specs.declared.Row.{Row}
 use Rattle.reduced_system.specs.Model.{gradient_inf_norm, predicted_reduction}
 use Rattle.reduced_system.specs.declared.ReducedSystem.{ReducedSystem}
 use Rattle.step_result.specs.declared.StepResult.{StepResult}
@@ -30,7 +30,7 @@ finished system s damping n squared damping_norm = record {
 }
 
 -- every number beside a refusal is +0
-unfoldable pub not_stepped : Refusal → StepResult
+unfoldable pub not_stepped : Row → StepResult
 not_stepped r = record {
   pose_step = tabulate 5 (λ i. zero·);
   cost = zero·;

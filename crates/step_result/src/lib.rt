@@ -8,7 +8,7 @@ ghost use Rattle.std.specs.Prelude.{◌≡◌};
 ghost use Rattle.step_result.specs.Results as Results;
 
 use reduced_system::ReducedSystem;
-use refusal::Refusal;
+use refusal::Row;
 
 // Beside a refusal every number is +0.
 #[derive(Clone, Copy)]
@@ -22,7 +22,7 @@ pub struct StepResult {
     pub point_step_rms: f64,
     pub point_damping_norm: f64,
     pub predicted_reduction: f64,
-    pub refusal: Refusal,
+    pub refusal: Row,
 }
 
 impl StepResult {
@@ -48,11 +48,11 @@ impl StepResult {
             point_step_rms: root::sqrt(squared / n as f64),
             point_damping_norm: damping_norm,
             predicted_reduction: predicted.reduction,
-            refusal: Refusal::none(),
+            refusal: Row::none(),
         }
     }
 
-    pub fn not_stepped(refusal: Refusal) -> Self
+    pub fn not_stepped(refusal: Row) -> Self
         ensures { result ≡ Results.not_stepped refusal }
     {
         Self {

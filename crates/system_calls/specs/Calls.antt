@@ -2,7 +2,7 @@
 -- A system: 45 numbers, and the weak count, the block count and the flag.
 use Rattle.std.specs.Prelude.{ℕ, ◌≡◌, Bool, ◌&&◌, cond, List, [], ◌∷◌, Float}
 use Rattle.refusal.specs.Refused.{none}
-use Rattle.refusal.specs.declared.Refusal.{Refusal}
+use Rattle.refusal.specs.declared.Row.{Row}
 use Rattle.list_of_adds.specs.System as System
 use Rattle.reduced_system.specs.Model as Model
 use Rattle.reduced_system.specs.declared.ReducedSystem.{ReducedSystem}
@@ -22,7 +22,7 @@ pub record Changed (number : ℕ) (numbers : List Float) (counts : List ℕ) (a 
   pub same_counts : counts ≡ a.counts
 
 -- row 1 where the lengths do not fit, then the call's own refusal or the next system
-unfoldable pub system_answer : Bool → Refusal → ReducedSystem → List Float → List ℕ → SystemAnswer
+unfoldable pub system_answer : Bool → Row → ReducedSystem → List Float → List ℕ → SystemAnswer
 system_answer fits refusal s numbers counts =
     cond fits (record { number = code refusal; numbers = stored refusal (system_numbers s) numbers; counts = stored refusal (system_counts s) counts })
     (record { number = lengths_code; numbers = numbers; counts = counts })

@@ -8,7 +8,7 @@ ghost use Rattle.flat_numbers.specs.FlatNumbers as FlatNumbers;
 ghost use Rattle.system_calls.specs.Calls as Calls;
 
 use reduced_system::ReducedSystem;
-use refusal::Refusal;
+use refusal::Row;
 
 pub fn system_new(system: &mut [f64], counts: &mut [u16]) -> u64
     ensures { Calls.Changed result system.new counts.new
@@ -17,7 +17,7 @@ pub fn system_new(system: &mut [f64], counts: &mut [u16]) -> u64
     if !((system.len() == 45) & (counts.len() == 3)) {
         return answers::lengths();
     }
-    answer(Refusal::none(), ReducedSystem::new(), system, counts)
+    answer(Row::none(), ReducedSystem::new(), system, counts)
 }
 
 pub fn system_add(system: &mut [f64], counts: &mut [u16], block: &[f64], damping: f64) -> u64
@@ -58,7 +58,7 @@ pub fn system_is_valid(system: &[f64], counts: &[u16], out: &mut [u16]) -> u64
     }
     let s = flat::system(system, counts);
     out[0] = flag(s.is_valid());
-    answers::code(Refusal::none())
+    answers::code(Row::none())
 }
 
 // out: 1
@@ -71,7 +71,7 @@ pub fn system_scaled_gradient_inf_norm(system: &[f64], counts: &[u16], out: &mut
     }
     let s = flat::system(system, counts);
     let values = [s.scaled_gradient_inf_norm()];
-    answers::answer(Refusal::none(), &values, out)
+    answers::answer(Row::none(), &values, out)
 }
 
 // step: 5; out: 1
@@ -97,7 +97,7 @@ pub fn system_predicted_reduction(
 }
 
 // Stores the system where nothing was refused, and answers the refusal's code.
-fn answer(refusal: Refusal, next: ReducedSystem, system: &mut [f64], counts: &mut [u16]) -> u64
+fn answer(refusal: Row, next: ReducedSystem, system: &mut [f64], counts: &mut [u16]) -> u64
     requires { (length system.old ≡ 45) × (length counts.old ≡ 3) }
     ensures { (result ≡ Answers.code refusal)
         × (system.new ≡ Answers.stored refusal (FlatNumbers.system_numbers next) system.old)

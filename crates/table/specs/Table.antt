@@ -6,7 +6,7 @@ use Rattle.number.specs.Binary64.{zero, neg_zero, half, one}
 use Rattle.root.specs.Root.{sqrt}
 use Rattle.refusal.specs.Rows as Rows
 use Rattle.refusal.specs.Refused.{of, none}
-use Rattle.refusal.specs.declared.Refusal.{Refusal}
+use Rattle.refusal.specs.declared.Row.{Row}
 use Rattle.projection.specs.Projection.{pixel_projection}
 use Rattle.projection.specs.declared.PinholeCamera.{PinholeCamera}
 use Rattle.point_block.specs.Lone.{factor, lone_factor}
@@ -25,11 +25,11 @@ abbrev pub diagonal : Float → Float → Float → List Float
 diagonal a b c = a ∷ zero ∷ zero ∷ zero ∷ b ∷ zero ∷ zero ∷ zero ∷ c ∷ []
 
 -- the lone factor's refusal and rcond at damping 0
-abbrev pub rcond_of : List Float → Refusal × Float
+abbrev pub rcond_of : List Float → Row × Float
 rcond_of m = ((lone_factor m zero).refusal, (lone_factor m zero).rcond)
 
 -- the lone factor's refusal at damping 0, and the weak test of `add`
-abbrev pub weak_of : List Float → Refusal × Bool
+abbrev pub weak_of : List Float → Row × Bool
 weak_of m = ((lone_factor m zero).refusal, is_weak (factor m zero).inverse m)
 
 -- a figure: what is asked, and the answer

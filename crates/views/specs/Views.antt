@@ -6,7 +6,7 @@ use Rattle.number.specs.Parts.{is_finite}
 use Rattle.number.specs.Vectors.{◌!◌, tabulate, zeros}
 use Rattle.refusal.specs.Rows as Rows
 use Rattle.refusal.specs.Refused.{at, of, none, is_none}
-use Rattle.refusal.specs.declared.Refusal.{Refusal}
+use Rattle.refusal.specs.declared.Row.{Row}
 use Rattle.projection.specs.Pose.{rotate, camera_point}
 use Rattle.projection.specs.Projection.{pixel_projection}
 use Rattle.projection.specs.declared.PinholeCamera.{PinholeCamera}
@@ -52,7 +52,7 @@ second_rows second rotated pose weight =
     weight
 
 -- every number beside a refusal is +0
-unfoldable pub not_seen : Refusal → LinearizedViews
+unfoldable pub not_seen : Row → LinearizedViews
 not_seen r = record {
   first = record { residual = zeros 2; pose = zero; point = zeros 6 };
   second = record { residual = zeros 2; pose = zeros 10; point = zeros 6 };

@@ -10,7 +10,7 @@ ghost use Rattle.std.specs.Prelude.{◌≡◌, length};
 ghost use Rattle.views.specs.Views as Views;
 
 use projection::{PinholeCamera, Projected};
-use refusal::Refusal;
+use refusal::Row;
 
 // How the second camera sits: the rotation by rows, the translation, two vectors that span the
 // translation's tangent plane, and the baseline
@@ -53,7 +53,7 @@ pub struct LinearizedViews {
     pub second: View2,
     pub residual1: [f64; 2],
     pub residual2: [f64; 2],
-    pub refusal: Refusal,
+    pub refusal: Row,
 }
 
 // Tests row 4, then row 9 with view 1 or 2.
@@ -67,14 +67,14 @@ pub fn linearize_views(
 {
     let inverse_deviation = correspondence.inverse_deviation;
     if !good_deviation(inverse_deviation) {
-        return not_seen(Refusal::of(refusal::INVERSE_DEVIATION));
+        return not_seen(Row::of(refusal::INVERSE_DEVIATION));
     }
     let point = correspondence.point;
     let view1 = correspondence.view1;
     let first = projection::pixel_projection(camera1, view1, point);
     let refusal1 = first.refusal;
     if !refusal1.is_none() {
-        return not_seen(Refusal::at(refusal::PROJECTION, 1, 0));
+        return not_seen(Row::at(refusal::PROJECTION, 1, 0));
     }
     let rotation = pose.rotation;
     let translation = pose.translation;
@@ -87,7 +87,7 @@ pub fn linearize_views(
     );
     let refusal2 = second.refusal;
     if !refusal2.is_none() {
-        return not_seen(Refusal::at(refusal::PROJECTION, 2, 0));
+        return not_seen(Row::at(refusal::PROJECTION, 2, 0));
     }
     weighted_views(first, second, rotated, pose, inverse_deviation)
 }
@@ -99,7 +99,7 @@ pub fn good_deviation(x: f64) -> bool
     number::is_finite(x) & !(x <= 0.0)
 }
 
-fn not_seen(refusal: Refusal) -> LinearizedViews
+fn not_seen(refusal: Row) -> LinearizedViews
     ensures { result ≡ Views.not_seen refusal }
 {
     LinearizedViews {
@@ -141,7 +141,7 @@ fn weighted_views(
         ),
         residual1,
         residual2,
-        refusal: Refusal::none(),
+        refusal: Row::none(),
     }
 }
 

@@ -8,7 +8,7 @@ use lib.ListN.{length}
 use lib.Ieee.{Float}
 use Rattle.refusal.specs.Rows as Rows
 use Rattle.refusal.specs.Refused.{of, is_none}
-use Rattle.refusal.specs.declared.Refusal.{Refusal}
+use Rattle.refusal.specs.declared.Row.{Row}
 use Rattle.point_damping.specs.Damping as Damping
 use Rattle.point_damping.specs.declared.DampedMatrix.{DampedMatrix}
 use Rattle.matrix_calls.specs.Calls.{damped_matrix}
@@ -19,14 +19,14 @@ use borrow.Author.Rules.{rules}
 use Rattle.matrix_calls.proofs.damped_matrix.Goals as goal
 
 -- the damping that was tested, by the test's answer
-module _ (tested good : Bool) (e : tested ≡ good) (refusal : Refusal) where
+module _ (tested good : Bool) (e : tested ≡ good) (refusal : Row) where
   -- row 3, and `out` stays as it was
-  row_3 : (fits : Bool) (r : Refusal) (values out : List Float) (number : ℕ) → not fits ≡ false → not tested ≡ true → r ≡ of Rows.damping → number ≡ code r
+  row_3 : (fits : Bool) (r : Row) (values out : List Float) (number : ℕ) → not fits ≡ false → not tested ≡ true → r ≡ of Rows.damping → number ≡ code r
       → Answered number out (answer fits (cond good refusal (of Rows.damping)) values out)
   unfolding answer stored is_none
   row_3 fits r values out number f t p q = rw (not-false fits f, ← e, not-true tested t) (record { same_number = q ∙ ap code p; same_out = refl })
 
-  passed : (r : Refusal) → not tested ≡ false → r ≡ refusal → r ≡ cond good refusal (of Rows.damping)
+  passed : (r : Row) → not tested ≡ false → r ≡ refusal → r ≡ cond good refusal (of Rows.damping)
   passed r t p = rw (← e, not-false tested t) p
 
 pub returns-then-not-matrix-out : goal.returns-then-not-matrix-out

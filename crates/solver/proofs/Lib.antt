@@ -1,2 +1,0 @@
--- Laws of the solve.
-pub mod Laws
