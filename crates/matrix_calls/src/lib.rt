@@ -7,22 +7,24 @@ ghost use Rattle.answers.specs.Answers as Answers;
 ghost use Rattle.matrix_calls.specs.Calls as Calls;
 
 use point_block::{LoneFactor, PointBlockFactor};
-use refusal::Row;
+use refusal::Refusal;
 
 // out: 3
+#[tactic(auto, unfolding(crate::specs::Calls::damping_diagonal, answers::specs::Answers::answer))]
 pub fn damping_diagonal(matrix: &[f64], out: &mut [f64]) -> u64
     ensures { Answers.Answered result out.new (Calls.damping_diagonal matrix.now out.old) }
 {
     if !((matrix.len() == 9) & (out.len() == 3)) {
         return answers::lengths();
     }
-    let d = point_damping::damping_diagonal(slices::vector9(matrix, 0));
-    let refusal = d.refusal;
-    let values = d.values;
-    answers::answer(refusal, &values, out)
+    answers::answer(
+        point_damping::damping_diagonal(slices::vector(matrix, 0)),
+        out,
+    )
 }
 
 // Tests row 3 before the matrix. out: 9
+#[tactic(auto, unfolding(crate::specs::Calls::damped_matrix, answers::specs::Answers::answer))]
 pub fn damped_matrix(matrix: &[f64], damping: f64, out: &mut [f64]) -> u64
     ensures { Answers.Answered result out.new (Calls.damped_matrix matrix.now damping out.old) }
 {
@@ -30,41 +32,38 @@ pub fn damped_matrix(matrix: &[f64], damping: f64, out: &mut [f64]) -> u64
         return answers::lengths();
     }
     if !point_damping::good_damping(damping) {
-        return answers::code(Row::of(refusal::DAMPING));
+        return answers::code(Refusal::Damping);
     }
-    let d = point_damping::damped_matrix(slices::vector9(matrix, 0), damping);
-    let refusal = d.refusal;
-    let values = d.matrix;
-    answers::answer(refusal, &values, out)
+    let damped = point_damping::damped_matrix(slices::vector(matrix, 0), damping);
+    answers::answer(damped, out)
 }
 
 // matrix: damped already; out: 6
+#[tactic(auto, unfolding(crate::specs::Calls::factor_damped, answers::specs::Answers::answer))]
 pub fn factor_damped(matrix: &[f64], out: &mut [f64]) -> u64
     ensures { Answers.Answered result out.new (Calls.factor_damped matrix.now out.old) }
 {
     if !((matrix.len() == 9) & (out.len() == 6)) {
         return answers::lengths();
     }
-    let f = PointBlockFactor::factor_damped(slices::vector9(matrix, 0));
-    let refusal = f.refusal;
-    let values = f.inverse;
-    answers::answer(refusal, &values, out)
+    let factor = PointBlockFactor::factor_damped(slices::vector(matrix, 0));
+    answers::answer(factor.map(packed), out)
 }
 
 // The lone factor. out: inverse 6, rcond
+#[tactic(auto, unfolding(crate::specs::Calls::lone_factor, answers::specs::Answers::answer))]
 pub fn factor_new(matrix: &[f64], damping: f64, out: &mut [f64]) -> u64
     ensures { Answers.Answered result out.new (Calls.lone_factor matrix.now damping out.old) }
 {
     if !((matrix.len() == 9) & (out.len() == 7)) {
         return answers::lengths();
     }
-    let f = PointBlockFactor::new(slices::vector9(matrix, 0), damping);
-    let refusal = f.refusal;
-    let values = factor_numbers(f);
-    answers::answer(refusal, &values, out)
+    let lone = PointBlockFactor::new(slices::vector(matrix, 0), damping);
+    answers::answer(lone.map(factor_numbers), out)
 }
 
 // inverse: 6; x: 3; out: 3
+#[tactic(auto, unfolding(crate::specs::Calls::factor_solve, answers::specs::Answers::answer))]
 pub fn factor_solve(inverse: &[f64], x: &[f64], out: &mut [f64]) -> u64
     ensures { Answers.Answered result out.new (Calls.factor_solve inverse.now x.now out.old) }
 {
@@ -72,14 +71,13 @@ pub fn factor_solve(inverse: &[f64], x: &[f64], out: &mut [f64]) -> u64
         return answers::lengths();
     }
     let factor = PointBlockFactor {
-        inverse: slices::vector6(inverse, 0),
-        refusal: Row::none(),
+        inverse: slices::vector(inverse, 0),
     };
-    let values = factor.solve(slices::vector3(x, 0));
-    answers::answer(Row::none(), &values, out)
+    answers::answer(Ok(factor.solve(slices::vector(x, 0))), out)
 }
 
 // inverse: 6; matrix: 9; out: 1
+#[tactic(auto, unfolding(crate::specs::Calls::reciprocal_condition_number, answers::specs::Answers::answer))]
 pub fn reciprocal_condition_number(inverse: &[f64], matrix: &[f64], out: &mut [f64]) -> u64
     ensures { Answers.Answered result out.new
         (Calls.reciprocal_condition_number inverse.now matrix.now out.old) }
@@ -88,14 +86,14 @@ pub fn reciprocal_condition_number(inverse: &[f64], matrix: &[f64], out: &mut [f
         return answers::lengths();
     }
     let factor = PointBlockFactor {
-        inverse: slices::vector6(inverse, 0),
-        refusal: Row::none(),
+        inverse: slices::vector(inverse, 0),
     };
-    let values = [factor.reciprocal_condition_number(slices::vector9(matrix, 0))];
-    answers::answer(Row::none(), &values, out)
+    let rcond = factor.reciprocal_condition_number(slices::vector(matrix, 0));
+    answers::answer(Ok([rcond]), out)
 }
 
 // a: 25 numbers, row by row; b: 5; out: 5
+#[tactic(auto, unfolding(crate::specs::Calls::solve_positive_definite, answers::specs::Answers::answer))]
 pub fn solve_positive_definite(a: &[f64], b: &[f64], out: &mut [f64]) -> u64
     ensures { Answers.Answered result out.new
         (Calls.solve_positive_definite a.now b.now out.old) }
@@ -103,16 +101,20 @@ pub fn solve_positive_definite(a: &[f64], b: &[f64], out: &mut [f64]) -> u64
     if !((a.len() == 25) & (b.len() == 5) & (out.len() == 5)) {
         return answers::lengths();
     }
-    let s = solver::solve_positive_definite(slices::vector25(a, 0), slices::vector5(b, 0));
-    let refusal = s.refusal;
-    let values = s.x;
-    answers::answer(refusal, &values, out)
+    let x = solver::solve_positive_definite(slices::vector(a, 0), slices::vector(b, 0));
+    answers::answer(x, out)
+}
+
+fn packed(factor: PointBlockFactor) -> [f64; 6]
+    ensures { result ≡ factor.inverse }
+{
+    factor.inverse
 }
 
 // Inverse and rcond
 fn factor_numbers(f: LoneFactor) -> [f64; 7]
     ensures { result ≡ Calls.factor_numbers f }
 {
-    let i = f.inverse;
+    let i = f.factor.inverse;
     [i[0], i[1], i[2], i[3], i[4], i[5], f.rcond]
 }

@@ -1,5 +1,5 @@
 -- The refusals: a row's number, a view and an index, the last two 0 where they have no sense. Row 0 refuses nothing.
-use Rattle.std.specs.Prelude.{ℕ, zero, suc, Bool, true, false}
+use Rattle.std.specs.Prelude.{ℕ, zero, suc, Bool, true, false, Result, Ok, Err}
 use Rattle.refusal.specs.Rows as Rows
 use Rattle.refusal.specs.declared.Row.{Row}
 use Rattle.refusal.specs.declared.View.{View}
@@ -47,3 +47,10 @@ row WeakCount = of Rows.weak_count
 row Full = of Rows.full
 row RecordTooLong = of Rows.record_too_long
 row (RecordForm i) = at Rows.record_form 0 i
+
+-- ---- answers
+
+-- what f makes of the value, or the refusal
+abbrev pub map_ok : {A B : Type 0} → (A → B) → Result A Refusal → Result B Refusal
+map_ok f (Ok x) = Ok (f x)
+map_ok f (Err r) = Err r

@@ -2,7 +2,7 @@
 // end of a slice is NaN.
 #![tactic(auto)]
 
-ghost use Rattle.std.specs.Prelude.{◌≡◌, drop};
+ghost use Rattle.std.specs.Prelude.{◌≡◌, drop, length};
 ghost use Rattle.slices.specs.Slices as Slices;
 
 use std::array;
@@ -20,7 +20,8 @@ pub fn copy(values: &[f64], start: u32, out: &mut [f64])
 
 // N numbers of x, from `start` on
 pub fn vector<const N: usize>(x: &[f64], start: u32) -> [f64; N]
-    ensures { result ≡ Slices.part start N x.now }
+    ensures part { result ≡ Slices.part start N x.now }
+    ensures whole { start ≡ 0 → length x.now ≡ N → result ≡ x.now }
 {
     let numbers = rest(x, start as usize);
     array::from_fn(|i| vectors::entry(numbers, i))
