@@ -2,14 +2,16 @@
 // `pixel_step` exports them.
 #![tactic(auto)]
 
-ghost use Rattle.std.specs.Prelude.{◌≡◌, length};
+ghost use Rattle.std.specs.Prelude.{[], ◌∷◌, ◌≡◌, length};
+ghost use Rattle.refusal.specs.Refused.{map_ok};
 ghost use Rattle.answers.specs.Answers as Answers;
 ghost use Rattle.flat_numbers.specs.FlatNumbers as FlatNumbers;
 ghost use Rattle.system_calls.specs.Calls as Calls;
 
 use reduced_system::ReducedSystem;
-use refusal::Row;
+use refusal::Refusal;
 
+#[tactic(auto, unfolding(crate::specs::Calls::new_system, crate::specs::Calls::system_answer))]
 pub fn system_new(system: &mut [f64], counts: &mut [u16]) -> u64
     ensures { Calls.Changed result system.new counts.new
         (Calls.new_system system.old counts.old) }
@@ -17,9 +19,10 @@ pub fn system_new(system: &mut [f64], counts: &mut [u16]) -> u64
     if !((system.len() == 45) & (counts.len() == 3)) {
         return answers::lengths();
     }
-    answer(Row::none(), ReducedSystem::new(), system, counts)
+    answer(Ok(ReducedSystem::new()), system, counts)
 }
 
+#[tactic(auto, unfolding(crate::specs::Calls::add, crate::specs::Calls::system_answer))]
 pub fn system_add(system: &mut [f64], counts: &mut [u16], block: &[f64], damping: f64) -> u64
     ensures { Calls.Changed result system.new counts.new
         (Calls.add system.old counts.old block.now damping) }
@@ -29,11 +32,10 @@ pub fn system_add(system: &mut [f64], counts: &mut [u16], block: &[f64], damping
     }
     let s = flat::system(system, counts);
     let added = schur::add(s, flat::block(block), damping);
-    let refusal = added.refusal;
-    let next = added.system;
-    answer(refusal, next, system, counts)
+    answer(added, system, counts)
 }
 
+#[tactic(auto, unfolding(crate::specs::Calls::finish_damping, crate::specs::Calls::system_answer))]
 pub fn system_finish_damping(system: &mut [f64], counts: &mut [u16], damping: f64) -> u64
     ensures { Calls.Changed result system.new counts.new
         (Calls.finish_damping system.old counts.old damping) }
@@ -43,12 +45,11 @@ pub fn system_finish_damping(system: &mut [f64], counts: &mut [u16], damping: f6
     }
     let s = flat::system(system, counts);
     let finished = s.finish_damping(damping);
-    let refusal = finished.refusal;
-    let next = finished.system;
-    answer(refusal, next, system, counts)
+    answer(finished, system, counts)
 }
 
 // out: 0 or 1
+#[tactic(auto, unfolding(crate::specs::Calls::is_valid, answers::specs::Answers::answer))]
 pub fn system_is_valid(system: &[f64], counts: &[u16], out: &mut [u16]) -> u64
     ensures { Answers.Answered result out.new
         (Calls.is_valid system.now counts.now out.old) }
@@ -58,10 +59,11 @@ pub fn system_is_valid(system: &[f64], counts: &[u16], out: &mut [u16]) -> u64
     }
     let s = flat::system(system, counts);
     out[0] = flag(s.is_valid());
-    answers::code(Row::none())
+    0
 }
 
 // out: 1
+#[tactic(auto, unfolding(crate::specs::Calls::gradient_inf_norm, answers::specs::Answers::answer))]
 pub fn system_scaled_gradient_inf_norm(system: &[f64], counts: &[u16], out: &mut [f64]) -> u64
     ensures { Answers.Answered result out.new
         (Calls.gradient_inf_norm system.now counts.now out.old) }
@@ -70,11 +72,11 @@ pub fn system_scaled_gradient_inf_norm(system: &[f64], counts: &[u16], out: &mut
         return answers::lengths();
     }
     let s = flat::system(system, counts);
-    let values = [s.scaled_gradient_inf_norm()];
-    answers::answer(Row::none(), &values, out)
+    answers::answer(Ok([s.scaled_gradient_inf_norm()]), out)
 }
 
 // step: 5; out: 1
+#[tactic(auto, unfolding(crate::specs::Calls::predicted_reduction, answers::specs::Answers::answer))]
 pub fn system_predicted_reduction(
     system: &[f64],
     counts: &[u16],
@@ -90,28 +92,37 @@ pub fn system_predicted_reduction(
         return answers::lengths();
     }
     let s = flat::system(system, counts);
-    let p = s.predicted_reduction(slices::vector5(step, 0), damping, point_damping_norm);
-    let refusal = p.refusal;
-    let values = [p.reduction];
-    answers::answer(refusal, &values, out)
+    let predicted = s.predicted_reduction(slices::vector(step, 0), damping, point_damping_norm);
+    answers::answer(predicted.map(alone), out)
 }
 
-// Stores the system where nothing was refused, and answers the refusal's code.
-fn answer(refusal: Row, next: ReducedSystem, system: &mut [f64], counts: &mut [u16]) -> u64
-    requires { (length system.old ≡ 45) × (length counts.old ≡ 3) }
-    ensures { (result ≡ Answers.code refusal)
-        × (system.new ≡ Answers.stored refusal (FlatNumbers.system_numbers next) system.old)
-        × (counts.new ≡ Answers.stored refusal (FlatNumbers.system_counts next) counts.old) }
+// One number as an array
+fn alone(x: f64) -> [f64; 1]
+    ensures { result ≡ x ∷ [] }
 {
-    if !refusal.is_none() {
-        return answers::code(refusal);
-    }
+    [x]
+}
+
+// Stores the system where nothing was refused, and answers 0 or the refusal's code.
+#[tactic(auto, unfolding(flat_numbers::specs::FlatNumbers::system_counts))]
+fn answer(
+    answered: Result<ReducedSystem, Refusal>,
+    system: &mut [f64],
+    counts: &mut [u16],
+) -> u64
+    requires { (length system.old ≡ 45) × (length counts.old ≡ 3) }
+    ensures number { result ≡ Answers.number answered }
+    ensures numbers { system.new ≡ Answers.stored (map_ok FlatNumbers.system_numbers answered) system.old }
+    ensures counts { counts.new ≡ Answers.stored (map_ok FlatNumbers.system_counts answered) counts.old }
+{
+    let next = match answered {
+        Ok(next) => next,
+        Err(refusal) => return answers::code(refusal),
+    };
     let values = flat_numbers::system_numbers(next);
     answers::store(&values, system);
-    counts[0] = next.weak_point_count;
-    counts[1] = next.block_count;
-    counts[2] = flag(next.valid);
-    answers::code(refusal)
+    counts.copy_from_slice(&[next.weak_point_count, next.block_count, flag(next.valid)]);
+    0
 }
 
 fn flag(b: bool) -> u16

@@ -1,2 +1,0 @@
--- Laws of the calls on a system.
-pub mod Laws
