@@ -1,9 +1,8 @@
 -- What a block makes of a system's equations once its point is eliminated, and what it shows of itself: `add` of schur.rs. Document 01, "The system".
-use Rattle.std.specs.Prelude.{Bool, true, false, ◌&&◌, cond, List, Float}
+use Rattle.std.specs.Prelude.{Bool, true, false, ◌&&◌, cond, List, Float, Ok, Err}
 use Rattle.std.specs.Float.Ieee.{eq}
 use Rattle.extrema.specs.Extrema.{min}
 use Rattle.number.specs.Binary64.{zero}
-use Rattle.refusal.specs.Refused.{is_none}
 use Rattle.point_block.specs.Condition.{reciprocal_condition_number, is_weak}
 use Rattle.point_block.specs.Lone.{factor}
 use Rattle.linearization.specs.declared.linearize.LocalLinearization.{LocalLinearization}
@@ -38,6 +37,4 @@ eliminated s b damping inverse = record {
 }
 
 unfoldable pub eliminate : ReducedSystem → LocalLinearization → Float → Change
-eliminate s b damping =
-    let f = factor b.point_hessian damping in
-    cond (is_none f.refusal) (eliminated s b damping f.inverse) (not_eliminated s (is_zero damping))
+eliminate s b damping = elim (factor b.point_hessian damping) [ Ok f ↦ eliminated s b damping f.inverse | Err r ↦ not_eliminated s (is_zero damping) ]

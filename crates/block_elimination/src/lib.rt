@@ -23,20 +23,19 @@ pub struct Change {
     pub weak: bool,
 }
 
+#[tactic(auto, unfolding(crate::specs::BlockElimination::eliminate))]
 pub fn eliminate(system: ReducedSystem, local: LocalLinearization, damping: f64) -> Change
     ensures { result ≡ BlockElimination.eliminate system local damping }
 {
     let matrix = local.point_hessian;
-    let factor = PointBlockFactor::factor(matrix, damping);
-    let refusal = factor.refusal;
-    if refusal.is_none() {
-        eliminated(system, local, damping, factor)
-    } else {
-        not_eliminated(system, damping == 0.0)
+    match PointBlockFactor::factor(matrix, damping) {
+        Ok(factor) => eliminated(system, local, damping, factor),
+        Err(_) => not_eliminated(system, damping == 0.0),
     }
 }
 
 // A block that factors
+#[tactic(auto, unfolding(crate::specs::BlockElimination::eliminated))]
 fn eliminated(
     system: ReducedSystem,
     local: LocalLinearization,
@@ -69,6 +68,7 @@ fn eliminated(
 }
 
 // A block that does not factor: at damping zero it is weak with an rcond of 0.
+#[tactic(auto, unfolding(crate::specs::BlockElimination::not_eliminated))]
 fn not_eliminated(system: ReducedSystem, at_zero: bool) -> Change
     ensures { result ≡ BlockElimination.not_eliminated system at_zero }
 {

@@ -1,13 +1,22 @@
 -- The letter that a list gives a point, by its block.
-use Rattle.std.specs.Prelude.{ℕ, cond, Float}
+use Rattle.std.specs.Prelude.{ℕ, cond, Float, Ok, Err}
 use Rattle.std.specs.Float.Ieee.{eq, le}
 use Rattle.number.specs.Binary64.{zero, epsilon192}
-use Rattle.refusal.specs.Refused.{is_none}
 use Rattle.point_block.specs.Lone.{lone_factor}
 use Rattle.linearization.specs.declared.linearize.LocalLinearization.{LocalLinearization}
+use Rattle.letters.specs.declared.Grade.{Grade}
+use Rattle.letters.specs.declared.Grade.TheVariants.{NotFactored, Weak, Good, Factored}
 
--- `n` does not factor; at damping zero `w` factors with rcond ≤ 192ε, `g` factors above it; at other dampings `f` factors
+-- at damping zero a block that factors is weak with rcond ≤ 192ε, and good above it
+unfoldable pub of : LocalLinearization → Float → Grade
+of b damping = elim (lone_factor b.point_hessian damping) [ Ok f ↦ cond (eq damping zero) (cond (le f.rcond epsilon192) Weak Good) Factored | Err r ↦ NotFactored ]
+
+-- `n` does not factor; at damping zero `w` is weak and `g` good; at other dampings `f` factors
+abbrev pub byte : Grade → ℕ
+byte NotFactored = 110
+byte Weak = 119
+byte Good = 103
+byte Factored = 102
+
 unfoldable pub letter : LocalLinearization → Float → ℕ
-letter b damping =
-    let f = lone_factor b.point_hessian damping in
-    cond (is_none f.refusal) (cond (eq damping zero) (cond (le f.rcond epsilon192) 119 103) 102) 110
+letter b damping = byte (of b damping)

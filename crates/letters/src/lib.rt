@@ -7,21 +7,52 @@ ghost use Rattle.letters.specs.Letters as Letters;
 use linearization::LocalLinearization;
 use point_block::PointBlockFactor;
 
-// `n` where the block does not factor; at damping zero `w` for an rcond of at most 192ε, else `g`; at other dampings `f`
+// How a point's block factors
+#[derive(Clone, Copy, Debug, PartialEq, Eq)]
+pub enum Grade {
+    NotFactored,
+    // at damping zero, with an rcond of at most 192ε
+    Weak,
+    // at damping zero, with an rcond above that
+    Good,
+    // at another damping
+    Factored,
+}
+
+impl Grade {
+    #[tactic(auto, unfolding(crate::specs::Letters::of))]
+    pub fn of(local: LocalLinearization, damping: f64) -> Self
+        ensures { result ≡ Letters.of local damping }
+    {
+        let matrix = local.point_hessian;
+        match PointBlockFactor::new(matrix, damping) {
+            Ok(lone) if damping == 0.0 => {
+                if lone.rcond <= number::EPSILON192 {
+                    Grade::Weak
+                } else {
+                    Grade::Good
+                }
+            }
+            Ok(_) => Grade::Factored,
+            Err(_) => Grade::NotFactored,
+        }
+    }
+
+    pub fn byte(self) -> u8
+        ensures { result ≡ Letters.byte self }
+    {
+        match self {
+            Grade::NotFactored => b'n',
+            Grade::Weak => b'w',
+            Grade::Good => b'g',
+            Grade::Factored => b'f',
+        }
+    }
+}
+
+#[tactic(auto, unfolding(crate::specs::Letters::letter))]
 pub fn letter(local: LocalLinearization, damping: f64) -> u8
     ensures { result ≡ Letters.letter local damping }
 {
-    let matrix = local.point_hessian;
-    let factor = PointBlockFactor::new(matrix, damping);
-    let refusal = factor.refusal;
-    if !refusal.is_none() {
-        return b'n';
-    }
-    if damping == 0.0 {
-        if factor.rcond <= number::EPSILON192 {
-            return b'w';
-        }
-        return b'g';
-    }
-    b'f'
+    Grade::of(local, damping).byte()
 }

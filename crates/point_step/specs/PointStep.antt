@@ -1,10 +1,10 @@
 -- `point_step_with_damping_norm` of schur.rs: how a point moves with a step of the pose.
-use Rattle.std.specs.Prelude.{ℕ, ◌+◌, cond, List, [], ◌∷◌, Float}
+use Rattle.std.specs.Prelude.{ℕ, ◌+◌, cond, List, [], ◌∷◌, Float, Result, Ok, Err}
 use Rattle.std.specs.Float.Ieee.{neg}
-use Rattle.number.specs.Binary64.{◌⊕◌, ◌⊗◌, zero}
-use Rattle.number.specs.Vectors.{◌!◌, sum, tabulate, zeros}
-use Rattle.refusal.specs.Rows as Rows
-use Rattle.refusal.specs.Refused.{of, none, is_none}
+use Rattle.number.specs.Binary64.{◌⊕◌, ◌⊗◌}
+use Rattle.number.specs.Vectors.{◌!◌, sum, tabulate}
+use Rattle.refusal.specs.declared.Refusal.{Refusal}
+use Rattle.refusal.specs.declared.Refusal.TheVariants.{Damping}
 use Rattle.point_damping.specs.Damping.{good_damping, damping_diagonal}
 use Rattle.point_block.specs.Factor.{solve}
 use Rattle.point_block.specs.Lone.{factor}
@@ -28,20 +28,15 @@ step_of inverse t pose_step = tabulate 3 (λ i. neg (solve inverse (right_hand_s
 unfoldable pub damping_norm : List Float → List Float → Float
 damping_norm diagonal step = sum (tabulate 3 (λ i. diagonal ! i ⊗ step ! i ⊗ step ! i))
 
-unfoldable pub stepped : List Float → PointTerms → List Float → PointStep
+unfoldable pub stepped : List Float → PointTerms → List Float → Result PointStep Refusal
 stepped inverse t pose_step =
     let step = step_of inverse t pose_step in
-    record { step = step; damping_norm = damping_norm (damping_diagonal t.point_hessian).values step; refusal = none }
-
--- every number beside a refusal is +0
-unfoldable pub not_stepped : ℕ → PointStep
-not_stepped row = record { step = zeros 3; damping_norm = zero; refusal = of row }
+    elim (damping_diagonal t.point_hessian) [ Ok d ↦ Ok (record { step = step; damping_norm = damping_norm d step }) | Err r ↦ Err r ]
 
 -- tests row 3, then row 10
-unfoldable pub step_of_terms : PointTerms → Float → List Float → PointStep
+unfoldable pub step_of_terms : PointTerms → Float → List Float → Result PointStep Refusal
 step_of_terms t damping pose_step =
-    let f = factor t.point_hessian damping in
-    cond (good_damping damping) (cond (is_none f.refusal) (stepped f.inverse t pose_step) (not_stepped Rows.not_factored)) (not_stepped Rows.damping)
+    cond (good_damping damping) (elim (factor t.point_hessian damping) [ Ok f ↦ stepped f.inverse t pose_step | Err r ↦ Err r ]) (Err Damping)
 
-unfoldable pub point_step : LocalLinearization → Float → List Float → PointStep
+unfoldable pub point_step : LocalLinearization → Float → List Float → Result PointStep Refusal
 point_step b damping pose_step = step_of_terms (point_terms b) damping pose_step

@@ -9,67 +9,62 @@ ghost use Rattle.point_step.specs.PointStep as Steps;
 
 use linearization::{LocalLinearization, PointTerms};
 use point_block::PointBlockFactor;
-use refusal::Row;
+use refusal::Refusal;
 
-// A point's step and its damping norm; beside a refusal every number is +0.
+// A point's step and its damping norm
 #[derive(Clone, Copy)]
 pub struct PointStep {
     pub step: [f64; 3],
     pub damping_norm: f64,
-    pub refusal: Row,
 }
 
 // Tests row 3, then row 10.
+#[tactic(auto, unfolding(crate::specs::PointStep::point_step))]
 pub fn point_step_with_damping_norm(
     local: LocalLinearization,
     damping: f64,
     pose_step: [f64; 5],
-) -> PointStep
+) -> Result<PointStep, Refusal>
     ensures { result ≡ Steps.point_step local damping pose_step }
 {
     step_of_terms(linearization::terms_of(local), damping, pose_step)
 }
 
 // The same from what a step needs of the block
-pub fn step_of_terms(terms: PointTerms, damping: f64, pose_step: [f64; 5]) -> PointStep
+#[tactic(auto, unfolding(crate::specs::PointStep::step_of_terms))]
+pub fn step_of_terms(
+    terms: PointTerms,
+    damping: f64,
+    pose_step: [f64; 5],
+) -> Result<PointStep, Refusal>
     ensures { result ≡ Steps.step_of_terms terms damping pose_step }
 {
     if !point_damping::good_damping(damping) {
-        return not_stepped(refusal::DAMPING);
+        return Err(Refusal::Damping);
     }
     let matrix = terms.point_hessian;
-    let factor = PointBlockFactor::factor(matrix, damping);
-    let refusal = factor.refusal;
-    if !refusal.is_none() {
-        return not_stepped(refusal::NOT_FACTORED);
-    }
+    let factor = PointBlockFactor::factor(matrix, damping)?;
     stepped(factor, terms, pose_step)
 }
 
-fn not_stepped(row: u32) -> PointStep
-    ensures { result ≡ Steps.not_stepped row }
-{
-    PointStep {
-        step: [0.0; 3],
-        damping_norm: 0.0,
-        refusal: Row::of(row),
-    }
-}
-
-fn stepped(factor: PointBlockFactor, terms: PointTerms, pose_step: [f64; 5]) -> PointStep
+#[tactic(auto, unfolding(crate::specs::PointStep::stepped))]
+fn stepped(
+    factor: PointBlockFactor,
+    terms: PointTerms,
+    pose_step: [f64; 5],
+) -> Result<PointStep, Refusal>
     ensures { result ≡ Steps.stepped factor.inverse terms pose_step }
 {
     let step = step_of(factor, terms, pose_step);
     let matrix = terms.point_hessian;
-    let diagonal = point_damping::damping_diagonal(matrix);
-    let values = diagonal.values;
-    PointStep {
+    let diagonal = point_damping::damping_diagonal(matrix)?;
+    Ok(PointStep {
         step,
-        damping_norm: damping_norm(values, step),
-        refusal: Row::none(),
-    }
+        damping_norm: damping_norm(diagonal, step),
+    })
 }
 
+#[tactic(auto, unfolding(crate::specs::PointStep::step_of))]
 fn step_of(factor: PointBlockFactor, terms: PointTerms, pose_step: [f64; 5]) -> [f64; 3]
     ensures { result ≡ Steps.step_of factor.inverse terms pose_step }
 {
@@ -91,6 +86,7 @@ fn right_hand_side(terms: PointTerms, pose_step: [f64; 5]) -> [f64; 3]
 }
 
 // Column i of five rows of three
+#[tactic(auto, unfolding(crate::specs::PointStep::cross_column))]
 fn cross_column(cross: [f64; 15], i: usize) -> [f64; 5]
     requires { i < 3 }
     ensures { result ≡ Steps.cross_column cross i }
@@ -104,6 +100,7 @@ fn cross_column(cross: [f64; 15], i: usize) -> [f64; 5]
     ]
 }
 
+#[tactic(auto, unfolding(crate::specs::PointStep::damping_norm))]
 fn damping_norm(diagonal: [f64; 3], step: [f64; 3]) -> f64
     ensures { result ≡ Steps.damping_norm diagonal step }
 {

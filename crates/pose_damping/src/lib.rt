@@ -7,6 +7,9 @@
 ghost use Rattle.std.specs.Prelude.{◌≡◌, ◌<◌};
 ghost use Rattle.pose_damping.specs.PoseDamping as PoseDamping;
 
+use std::array;
+
+#[tactic(auto, unfolding(crate::specs::PoseDamping::pose_floor))]
 fn pose_floor(d: [f64; 5]) -> f64
     ensures { result ≡ PoseDamping.pose_floor d }
 {
@@ -14,29 +17,23 @@ fn pose_floor(d: [f64; 5]) -> f64
 }
 
 // The pose diagonal, each entry at least the floor
+#[tactic(auto, unfolding(crate::specs::PoseDamping::damping_diagonal))]
 fn damping_diagonal(d: [f64; 5]) -> [f64; 5]
     ensures { result ≡ PoseDamping.damping_diagonal d }
 {
     let floor = pose_floor(d);
-    let mut out = [0.0; 5];
-    for i in 0..5 {
-        out[i] = extrema::max(d[i], floor);
-    }
-    out
+    array::from_fn(|i| extrema::max(d[i], floor))
 }
 
 pub fn damped_hessian(h: [f64; 25], d: [f64; 5], damping: f64) -> [f64; 25]
     ensures { result ≡ PoseDamping.damped_hessian h d damping }
 {
     let diagonal = damping_diagonal(d);
-    let mut out = [0.0; 25];
-    for k in 0..25 {
-        out[k] = damped_entry(h, diagonal, damping, k);
-    }
-    out
+    array::from_fn(|k| damped_entry(h, diagonal, damping, k))
 }
 
 // Damping goes to the Hessian's diagonal alone.
+#[tactic(auto, unfolding(crate::specs::PoseDamping::damped_entry))]
 fn damped_entry(h: [f64; 25], diagonal: [f64; 5], damping: f64, k: usize) -> f64
     requires { k < 25 }
     ensures { result ≡ PoseDamping.damped_entry h diagonal damping k }
@@ -48,13 +45,10 @@ fn damped_entry(h: [f64; 25], diagonal: [f64; 5], damping: f64, k: usize) -> f64
     }
 }
 
+#[tactic(auto, unfolding(crate::specs::PoseDamping::pose_damping_norm, pose_model::specs::PoseModel::dot5))]
 pub fn pose_damping_norm(d: [f64; 5], step: [f64; 5]) -> f64
     ensures { result ≡ PoseDamping.pose_damping_norm d step }
 {
     let diagonal = damping_diagonal(d);
-    let mut scaled = [0.0; 5];
-    for i in 0..5 {
-        scaled[i] = diagonal[i] * step[i];
-    }
-    pose_model::dot5(scaled, step)
+    pose_model::dot5(array::from_fn(|i| diagonal[i] * step[i]), step)
 }

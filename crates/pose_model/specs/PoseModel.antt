@@ -1,5 +1,5 @@
 -- The quadratic model of the pose's equations, in `add` and `predicted_reduction` of schur.rs.
-use Rattle.std.specs.Prelude.{ℕ, ◌+◌, ◌*◌, List, [], ◌∷◌, Float}
+use Rattle.std.specs.Prelude.{ℕ, ◌+◌, ◌*◌, List, Float}
 use Rattle.number.specs.Binary64.{◌⊕◌, ◌⊗◌}
 use Rattle.number.specs.Vectors.{◌!◌, sum, tabulate}
 
@@ -14,7 +14,7 @@ unfoldable pub diagonal5 : List Float → List Float
 diagonal5 h = tabulate 5 (λ i. h ! (6 * i))
 
 unfoldable pub hessian_row : List Float → ℕ → List Float
-hessian_row h i = h ! (5 * i) ∷ h ! (5 * i + 1) ∷ h ! (5 * i + 2) ∷ h ! (5 * i + 3) ∷ h ! (5 * i + 4) ∷ []
+hessian_row h i = tabulate 5 (λ j. h ! (5 * i + j))
 
 -- each row's product with the step, then the step's with those
 unfoldable pub quadratic : List Float → List Float → Float

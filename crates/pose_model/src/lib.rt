@@ -8,48 +8,42 @@
 ghost use Rattle.std.specs.Prelude.{◌≡◌, ◌<◌};
 ghost use Rattle.pose_model.specs.PoseModel as PoseModel;
 
+use std::array;
+
 // A sum of products, from −0
+#[tactic(auto, unfolding(crate::specs::PoseModel::dot5))]
 pub fn dot5(x: [f64; 5], y: [f64; 5]) -> f64
     ensures { result ≡ PoseModel.dot5 x y }
 {
     -0.0 + x[0] * y[0] + x[1] * y[1] + x[2] * y[2] + x[3] * y[3] + x[4] * y[4]
 }
 
+#[tactic(auto, unfolding(crate::specs::PoseModel::sum5))]
 pub fn sum5(x: [f64; 5], y: [f64; 5]) -> [f64; 5]
     ensures { result ≡ PoseModel.sum5 x y }
 {
-    let mut out = [0.0; 5];
-    for i in 0..5 {
-        out[i] = x[i] + y[i];
-    }
-    out
+    array::from_fn(|i| x[i] + y[i])
 }
 
 // The diagonal of a 5 by 5 matrix
+#[tactic(auto, unfolding(crate::specs::PoseModel::diagonal5))]
 pub fn diagonal5(h: [f64; 25]) -> [f64; 5]
     ensures { result ≡ PoseModel.diagonal5 h }
 {
-    let mut out = [0.0; 5];
-    for i in 0..5 {
-        out[i] = h[6 * i];
-    }
-    out
+    array::from_fn(|i| h[6 * i])
 }
 
+#[tactic(auto, unfolding(crate::specs::PoseModel::hessian_row))]
 fn hessian_row(h: [f64; 25], i: usize) -> [f64; 5]
     requires { i < 5 }
     ensures { result ≡ PoseModel.hessian_row h i }
 {
-    let at = 5 * i;
-    [h[at], h[at + 1], h[at + 2], h[at + 3], h[at + 4]]
+    array::from_fn(|j| h[5 * i + j])
 }
 
+#[tactic(auto, unfolding(crate::specs::PoseModel::quadratic))]
 pub fn quadratic(h: [f64; 25], step: [f64; 5]) -> f64
     ensures { result ≡ PoseModel.quadratic h step }
 {
-    let mut product = [0.0; 5];
-    for i in 0..5 {
-        product[i] = dot5(hessian_row(h, i), step);
-    }
-    dot5(step, product)
+    dot5(step, array::from_fn(|i| dot5(hessian_row(h, i), step)))
 }

@@ -1,2 +1,0 @@
--- Laws of the elimination of a block.
-pub mod Eliminating

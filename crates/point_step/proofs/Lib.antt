@@ -1,2 +1,0 @@
--- Laws of a point's step.
-pub mod Steps
