@@ -8,19 +8,19 @@
 ghost use Rattle.std.specs.Prelude.{◌≡◌};
 ghost use Rattle.projection.specs.Pose as Pose;
 
+use std::array;
+
+#[tactic(auto, unfolding(projection::specs::Pose::rotate))]
 pub fn rotate(rotation: [f64; 9], point: [f64; 3]) -> [f64; 3]
     ensures { result ≡ Pose.rotate rotation point }
 {
-    let mut out = [0.0; 3];
-    for i in 0..3 {
+    array::from_fn(|i| {
         let row = 3 * i;
-        out[i] = rotation[row] * point[0]
-            + rotation[row + 1] * point[1]
-            + rotation[row + 2] * point[2];
-    }
-    out
+        rotation[row] * point[0] + rotation[row + 1] * point[1] + rotation[row + 2] * point[2]
+    })
 }
 
+#[tactic(auto, unfolding(projection::specs::Pose::camera_point))]
 pub fn camera_point(rotated: [f64; 3], translation: [f64; 3]) -> [f64; 3]
     ensures { result ≡ Pose.camera_point rotated translation }
 {

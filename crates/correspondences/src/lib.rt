@@ -5,44 +5,39 @@
 // of a list stands a NaN, as in the definitions. From kernel/two_view/optimizer.rs, residual.rs.
 #![tactic(auto)]
 
-ghost use Rattle.std.specs.Prelude.{◌≡◌};
+ghost use Rattle.std.specs.Prelude.{◌≡◌, ◌<◌};
 ghost use Rattle.correspondences.specs.Problem as Problem;
 
-use projection::{PinholeCamera, Projected};
-use views::{Correspondence, Pose};
+use projection::Projected;
+use refusal::{Refusal, View};
+use std::array;
+use views::Correspondence;
+pub use views::Rig;
 
-// The two cameras, and how the second one sits
-#[derive(Clone, Copy)]
-pub struct Rig {
-    pub camera1: PinholeCamera,
-    pub camera2: PinholeCamera,
-    pub pose: Pose,
-}
-
-// A point of three numbers. One test covers all three, for speed.
+// A point of three numbers
 pub fn point_at(points: &[f64], i: u32) -> [f64; 3]
     ensures { result ≡ Problem.triple points.now i }
 {
-    let at = 3 * (i as usize);
-    if at + 2 < points.len() {
-        return [points[at], points[at + 1], points[at + 2]];
-    }
-    [
-        vectors::entry(points, at),
-        vectors::entry(points, at + 1),
-        vectors::entry(points, at + 2),
-    ]
+    numbers_at(points, i)
 }
 
-// The two numbers of a point in a view. One test covers both, for speed.
+// The two numbers of a point in a view
 pub fn pair_at(view: &[f64], i: u32) -> [f64; 2]
     ensures { result ≡ Problem.pair view.now i }
 {
-    let at = 2 * (i as usize);
-    if at + 1 < view.len() {
-        return [view[at], view[at + 1]];
+    numbers_at(view, i)
+}
+
+// The N numbers at an index. One test covers them all, for speed.
+fn numbers_at<const N: usize>(values: &[f64], i: u32) -> [f64; N]
+    requires { N < 4 }
+    ensures { result ≡ Problem.numbers N values.now i }
+{
+    let at = N * (i as usize);
+    if at + N <= values.len() {
+        return array::from_fn(|k| values[at + k]);
     }
-    [vectors::entry(view, at), vectors::entry(view, at + 1)]
+    array::from_fn(|k| vectors::entry(values, at + k))
 }
 
 // The correspondence at an index, which may lie beyond the end
@@ -63,19 +58,22 @@ pub fn correspondence_at(
     }
 }
 
-// A point as view 1 or 2 sees it
-pub fn project(rig: Rig, view: u32, observation: [f64; 2], point: [f64; 3]) -> Projected
+// A point as a view sees it
+#[tactic(auto, unfolding(crate::specs::Problem::project))]
+pub fn project(
+    rig: Rig,
+    view: View,
+    observation: [f64; 2],
+    point: [f64; 3],
+) -> Result<Projected, Refusal>
     ensures { result ≡ Problem.project rig view observation point }
 {
-    let pose = rig.pose;
-    let camera1 = rig.camera1;
-    let camera2 = rig.camera2;
-    let rotation = pose.rotation;
-    let translation = pose.translation;
-    if view == 1 {
-        projection::pixel_projection(camera1, observation, point)
-    } else {
-        let moved = camera_frame::camera_point(camera_frame::rotate(rotation, point), translation);
-        projection::pixel_projection(camera2, observation, moved)
+    match view {
+        View::First => projection::pixel_projection(rig.camera1, observation, point),
+        View::Second => {
+            let rotated = camera_frame::rotate(rig.pose.rotation, point);
+            let moved = camera_frame::camera_point(rotated, rig.pose.translation);
+            projection::pixel_projection(rig.camera2, observation, moved)
+        }
     }
 }

@@ -1,0 +1,2 @@
+-- An array that `from_fn` makes.
+mod FromFn
