@@ -1,2 +1,1 @@
--- Laws of what a call answers.
-pub mod Laws
+-- Answers stored in lent memory.

@@ -4,33 +4,39 @@
 
 ghost use Rattle.std.specs.Prelude.{◌≡◌};
 ghost use Rattle.answers.specs.Answers as Answers;
+ghost use Rattle.refusal.specs.Refused as Refused;
 
-use refusal::Row;
+use refusal::Refusal;
 
-// A refusal as one number: number + 256 · view + 65,536 · index. It is 0 where nothing was refused.
-pub fn code(refusal: Row) -> u64
-    ensures { result ≡ Answers.code refusal }
+// A refusal as one number: number + 256 · view + 65,536 · index
+#[tactic(auto, unfolding(crate::specs::Answers::code))]
+pub fn code(refusal: Refusal) -> u64
+    ensures { result ≡ Answers.code (Refused.row refusal) }
 {
-    refusal.number as u64 + 256 * (refusal.view as u64) + 65536 * (refusal.index as u64)
+    let row = refusal.row();
+    row.number as u64 + 256 * (row.view as u64) + 65536 * (row.index as u64)
 }
 
 // Row 1: the lengths do not fit.
 pub fn lengths() -> u64
     ensures { result ≡ Answers.lengths_code }
 {
-    code(Row::of(refusal::LENGTHS))
+    code(Refusal::Lengths)
 }
 
-// Stores the values where nothing was refused and `out` has room for just as many, and answers the refusal's code.
-pub fn answer(refusal: Row, values: &[f64], out: &mut [f64]) -> u64
-    ensures { (result ≡ Answers.code refusal)
-        × Answers.Stores (Answers.stored refusal values.now out.old) out.old out.new }
+// Stores the values where nothing was refused and `out` has room for just as many, and answers 0 or the
+// refusal's code.
+pub fn answer<const N: usize>(answered: Result<[f64; N], Refusal>, out: &mut [f64]) -> u64
+    ensures number { result ≡ Answers.number answered.entry }
+    ensures memory { Answers.Stores (Answers.stored answered.entry out.old) out.old out.new }
 {
-    if !refusal.is_none() {
-        return code(refusal);
+    match answered {
+        Ok(values) => {
+            store(&values, out);
+            0
+        }
+        Err(refusal) => code(refusal),
     }
-    store(values, out);
-    code(refusal)
 }
 
 // Stores the values where `out` has room for just as many; else `out` stays as it was.

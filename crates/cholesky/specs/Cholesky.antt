@@ -1,14 +1,13 @@
 -- The scaled Cholesky factor of a symmetric 3 by 3 block, the arithmetic of `factor_damped` of point_block.rs. A matrix is nine numbers, row by row.
-use Rattle.std.specs.Prelude.{Bool, true, false, ◌&&◌, cond, List, [], ◌∷◌, Float}
+use Rattle.std.specs.Prelude.{Bool, ◌&&◌, cond, List, [], ◌∷◌, Float, Option, Some, None}
 use Rattle.std.specs.Float.Ieee.{neg, lt}
 use Rattle.number.specs.Binary64.{◌⊕◌, ◌⊖◌, ◌⊗◌, ◌⊘◌, half, epsilon64, recip}
 use Rattle.number.specs.Parts.{is_finite}
 use Rattle.root.specs.Root.{sqrt}
-use Rattle.number.specs.Vectors.{◌!◌, zeros}
+use Rattle.number.specs.Vectors.{◌!◌}
 use Rattle.cholesky.specs.declared.Scale.{Scale}
 use Rattle.cholesky.specs.declared.Lower.{Lower}
 use Rattle.cholesky.specs.declared.Factor.{Factor}
-use Rattle.cholesky.specs.declared.Inverse.{Inverse}
 
 -- the Jacobi scale: the roots of a diagonal
 unfoldable pub scale_of : List Float → Scale
@@ -64,10 +63,9 @@ inverse_of l s =
     ∷ m₂₂ ⊗ m₂₂ ⊗ (d₂ ⊗ d₂)
     ∷ []
 
--- The inverse of a matrix by its factor at the scale of the roots of d, packed: 00, 10, 11, 20, 21, 22. Where a pivot is not good every number is +0.
-unfoldable pub invert : List Float → List Float → Inverse
+-- The inverse of a matrix by its factor at the scale of the roots of d, packed: 00, 10, 11, 20, 21, 22. None where a pivot is not good.
+unfoldable pub invert : List Float → List Float → Option (List Float)
 invert m d =
     let s = scale_of d in
     let c = cholesky_of (scaled_of m s) in
-    cond (good_pivots c) (record { values = inverse_of c.lower s; good = true })
-    (record { values = zeros 6; good = false })
+    cond (good_pivots c) (Some (inverse_of c.lower s)) None

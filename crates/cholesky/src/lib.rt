@@ -8,14 +8,6 @@
 ghost use Rattle.std.specs.Prelude.{◌≡◌};
 ghost use Rattle.cholesky.specs.Cholesky as Cholesky;
 
-// The inverse, packed lower triangle: 00, 10, 11, 20, 21, 22. Where a pivot is not good every number
-// is +0.
-#[derive(Clone, Copy)]
-pub struct Inverse {
-    pub values: [f64; 6],
-    pub good: bool,
-}
-
 // The Jacobi scale: the roots of a diagonal
 #[derive(Clone, Copy)]
 struct Scale {
@@ -44,25 +36,22 @@ struct Factor {
     lower: Lower,
 }
 
-// The inverse of a matrix by its Cholesky factor, which is worked out at the scale of the roots of d.
-pub fn invert(m: [f64; 9], d: [f64; 3]) -> Inverse
+// The inverse of a matrix by its Cholesky factor, which is worked out at the scale of the roots of d:
+// packed lower triangle, 00, 10, 11, 20, 21, 22. None where a pivot is not good.
+#[tactic(auto, unfolding(crate::specs::Cholesky::invert))]
+pub fn invert(m: [f64; 9], d: [f64; 3]) -> Option<[f64; 6]>
     ensures { result ≡ Cholesky.invert m d }
 {
     let scale = scale_of(d);
     let factor = cholesky_of(scaled_of(m, scale));
     if !good_pivots(factor) {
-        return Inverse {
-            values: [0.0; 6],
-            good: false,
-        };
+        return None;
     }
     let lower = factor.lower;
-    Inverse {
-        values: inverse_of(lower, scale),
-        good: true,
-    }
+    Some(inverse_of(lower, scale))
 }
 
+#[tactic(auto, unfolding(crate::specs::Cholesky::scale_of))]
 fn scale_of(d: [f64; 3]) -> Scale
     ensures { result ≡ Cholesky.scale_of d }
 {
@@ -90,6 +79,7 @@ fn scaled_of(m: [f64; 9], s: Scale) -> Lower
     }
 }
 
+#[tactic(auto, unfolding(crate::specs::Cholesky::cholesky_of))]
 fn cholesky_of(a: Lower) -> Factor
     ensures { result ≡ Cholesky.cholesky_of a }
 {
@@ -123,6 +113,7 @@ fn good_pivot(p: f64) -> bool
     number::is_finite(p) & (number::EPSILON64 < p)
 }
 
+#[tactic(auto, unfolding(crate::specs::Cholesky::good_pivots))]
 fn good_pivots(c: Factor) -> bool
     ensures { result ≡ Cholesky.good_pivots c }
 {
@@ -131,6 +122,7 @@ fn good_pivots(c: Factor) -> bool
 
 // The block's inverse from its lower triangle and its scale: M is the triangle's inverse, the scaled
 // inverse is Mᵀ M, and the scale is taken out on both sides.
+#[tactic(auto, unfolding(crate::specs::Cholesky::inverse_of))]
 fn inverse_of(l: Lower, s: Scale) -> [f64; 6]
     ensures { result ≡ Cholesky.inverse_of l s }
 {

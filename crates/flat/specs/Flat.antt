@@ -2,11 +2,10 @@
 use Rattle.std.specs.Prelude.{ℕ, not, List, eqb, get_or, Float}
 use Rattle.number.specs.Vectors.{◌!◌}
 use Rattle.slices.specs.Slices.{part}
-use Rattle.refusal.specs.Refused.{none}
 use Rattle.projection.specs.declared.PinholeCamera.{PinholeCamera}
 use Rattle.views.specs.declared.Correspondence.{Correspondence}
 use Rattle.linearization.specs.declared.linearize.LocalLinearization.{LocalLinearization}
-use Rattle.correspondences.specs.declared.Rig.{Rig}
+use Rattle.views.specs.declared.Rig.{Rig}
 use Rattle.reduced_system.specs.declared.ReducedSystem.{ReducedSystem}
 
 abbrev pub camera : List Float → PinholeCamera
@@ -32,7 +31,6 @@ block x = record {
   point_gradient = part 54 3 x;
   cost = x ! 57;
   squared_residual = x ! 58;
-  refusal = none;
 }
 
 -- from 45 numbers, and the weak count, the block count and the flag, which is false where it is 0

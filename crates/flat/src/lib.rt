@@ -6,18 +6,16 @@ ghost use Rattle.std.specs.Prelude.{◌≡◌, get_or};
 ghost use Rattle.slices.specs.Slices as Slices;
 ghost use Rattle.flat.specs.Flat as Flat;
 
-use correspondences::Rig;
 use linearization::LocalLinearization;
 use projection::PinholeCamera;
 use reduced_system::ReducedSystem;
-use refusal::Row;
-use views::{Correspondence, Pose};
+use views::{Correspondence, Pose, Rig};
 
 // Five numbers, from `start` on
 pub fn camera(x: &[f64], start: u32) -> PinholeCamera
     ensures { result ≡ Flat.camera (Slices.part start 5 x.now) }
 {
-    let numbers = slices::vector5(x, start);
+    let numbers = slices::vector::<5>(x, start);
     PinholeCamera {
         fx: numbers[0],
         fy: numbers[1],
@@ -28,6 +26,7 @@ pub fn camera(x: &[f64], start: u32) -> PinholeCamera
 }
 
 // Camera 1 and 2, then how the second one sits
+#[tactic(auto, unfolding(crate::specs::Flat::rig))]
 pub fn rig(x: &[f64]) -> Rig
     ensures { result ≡ Flat.rig x.now }
 {
@@ -35,51 +34,53 @@ pub fn rig(x: &[f64]) -> Rig
         camera1: camera(x, 0),
         camera2: camera(x, 5),
         pose: Pose {
-            rotation: slices::vector9(x, 10),
-            translation: slices::vector3(x, 19),
-            basis: slices::vector6(x, 22),
+            rotation: slices::vector(x, 10),
+            translation: slices::vector(x, 19),
+            basis: slices::vector(x, 22),
             baseline: vectors::entry(x, 28),
         },
     }
 }
 
+#[tactic(auto, unfolding(crate::specs::Flat::correspondence))]
 pub fn correspondence(x: &[f64]) -> Correspondence
     ensures { result ≡ Flat.correspondence x.now }
 {
     Correspondence {
-        point: slices::vector3(x, 0),
-        view1: slices::vector2(x, 3),
-        view2: slices::vector2(x, 5),
+        point: slices::vector(x, 0),
+        view1: slices::vector(x, 3),
+        view2: slices::vector(x, 5),
         inverse_deviation: vectors::entry(x, 7),
     }
 }
 
+#[tactic(auto, unfolding(crate::specs::Flat::block))]
 pub fn block(x: &[f64]) -> LocalLinearization
     ensures { result ≡ Flat.block x.now }
 {
     LocalLinearization {
-        pose_hessian: slices::vector25(x, 0),
-        cross_hessian: slices::vector15(x, 25),
-        point_hessian: slices::vector9(x, 40),
-        pose_gradient: slices::vector5(x, 49),
-        point_gradient: slices::vector3(x, 54),
+        pose_hessian: slices::vector(x, 0),
+        cross_hessian: slices::vector(x, 25),
+        point_hessian: slices::vector(x, 40),
+        pose_gradient: slices::vector(x, 49),
+        point_gradient: slices::vector(x, 54),
         cost: vectors::entry(x, 57),
         squared_residual: vectors::entry(x, 58),
-        refusal: Row::none(),
     }
 }
 
 // The flag is false where it is 0.
+#[tactic(auto, unfolding(crate::specs::Flat::system))]
 pub fn system(x: &[f64], counts: &[u16]) -> ReducedSystem
     ensures { result ≡ Flat.system x.now counts.now }
 {
     ReducedSystem {
-        hessian: slices::vector25(x, 0),
-        gradient: slices::vector5(x, 25),
+        hessian: slices::vector(x, 0),
+        gradient: slices::vector(x, 25),
         cost: vectors::entry(x, 30),
         squared_residual: vectors::entry(x, 31),
-        full_pose_gradient: slices::vector5(x, 32),
-        pose_diagonal: slices::vector5(x, 37),
+        full_pose_gradient: slices::vector(x, 32),
+        pose_diagonal: slices::vector(x, 37),
         point_model_reduction: vectors::entry(x, 42),
         scaled_point_gradient_inf_norm: vectors::entry(x, 43),
         weak_point_count: count(counts, 0),
@@ -93,5 +94,5 @@ pub fn system(x: &[f64], counts: &[u16]) -> ReducedSystem
 fn count(counts: &[u16], i: usize) -> u16
     ensures { result ≡ get_or counts.now i 0 }
 {
-    if i < counts.len() { counts[i] } else { 0 }
+    counts.get(i).copied().unwrap_or(0)
 }

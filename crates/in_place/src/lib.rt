@@ -5,18 +5,22 @@
 #![tactic(auto)]
 
 ghost use Rattle.std.specs.Prelude.{◌≡◌};
+ghost use Rattle.std.specs.Result.{result_err};
 ghost use Rattle.list_of_adds.specs.System as System;
 
 use linearization::LocalLinearization;
 use reduced_system::ReducedSystem;
-use refusal::Row;
+use refusal::Refusal;
 
 // Takes a block in. Tests rows 3, 12, 13; refused, it leaves the system unchanged.
-pub fn add_to(system: &mut ReducedSystem, local: LocalLinearization, damping: f64) -> Row
-    ensures { (result ≡ (System.add system.old local damping).refusal) × (system.new ≡ (System.add system.old local damping).system) }
+pub fn add_to(
+    system: &mut ReducedSystem,
+    local: LocalLinearization,
+    damping: f64,
+) -> Result<(), Refusal>
+    ensures refusal { result_err result ≡ result_err (System.add system.old local damping) }
+    ensures system { system.new ≡ System.handed_back system.old (System.add system.old local damping) }
 {
-    let was = *system;
-    let done = schur::add(was, local, damping);
-    *system = done.system;
-    done.refusal
+    *system = schur::add(*system, local, damping)?;
+    Ok(())
 }

@@ -1,4 +1,4 @@
--- The cost and the squared residual of every made block are numbers not below zero. Assumes nothing.
+-- The cost and the squared residual of every made block, and of the block that is +0 everywhere, are numbers not below zero. Assumes nothing.
 use mathlib.Core.Path.{◌≡◌, refl, sym, subst}
 use mathlib.Core.Bool.{Bool, true, false, not, ◌&&◌, cond, not-not}
 use mathlib.Core.List.{List}
@@ -11,21 +11,22 @@ use Rattle.number.specs.Vectors.{◌!◌}
 use Rattle.number.proofs.Order.{not_lt, nonneg_add, nonneg_not_nan, nonneg_square}
 use Rattle.number.proofs.Monotone.{nonneg_zero, finite_not_nan, nonneg_mul_weight, nonneg_half_square}
 use Rattle.root.proofs.Signs.{nonneg_sum_squares}
-use Rattle.refusal.specs.Rows as Rows
-use Rattle.refusal.specs.Refused.{at, of, is_none}
-use Rattle.refusal.specs.declared.Row.{Row}
+use Rattle.std.specs.Prelude.{Result, Ok, Err}
+use Rattle.refusal.specs.declared.View.TheVariants.{First, Second}
+use Rattle.refusal.specs.declared.Refusal.{Refusal}
+use Rattle.refusal.specs.declared.Refusal.TheVariants.{InverseDeviation}
 use Rattle.projection.specs.Pose.{rotate, camera_point}
 use Rattle.projection.specs.Projection.{all_finite, pixel_projection}
-use Rattle.projection.specs.declared.PinholeCamera.{PinholeCamera}
 use Rattle.projection.specs.declared.Projected.{Projected}
 use Rattle.projection.proofs.Laws.{projection_finite}
 use Rattle.linearization.specs.declared.linearize.LocalLinearization.{LocalLinearization}
 use Rattle.views.specs.declared.Pose.{Pose}
+use Rattle.views.specs.declared.Rig.{Rig}
 use Rattle.views.specs.declared.Correspondence.{Correspondence}
 use Rattle.views.specs.declared.LinearizedViews.{LinearizedViews}
 use Rattle.loss.specs.Loss.{norm, loss_cost}
-use Rattle.views.specs.Views.{good_deviation, not_seen, weighted_views, linearize_views}
-use Rattle.linearization.specs.Linearize.{no_block, sums, block, linearize_point}
+use Rattle.views.specs.Views.{good_deviation, weighted_views, seen, linearize_views}
+use Rattle.linearization.specs.Linearize.{no_block, block_or_zeros, map_ok, sums, block, linearize_point}
 
 abbrev pub Costs : LocalLinearization → Type 0
 Costs b = T (nonneg b.cost) × T (nonneg b.squared_residual)
@@ -70,37 +71,31 @@ block_costs first second rotated pose w h f g =
       sum_nonneg (m ⊗ m) (n ⊗ n) (nonneg_square binary64 m (nonneg_not_nan m a)) (nonneg_square binary64 n (nonneg_not_nan n b)),
     )
 
-not_made_costs : (r : Row) → Costs (no_block r)
+pub no_block_costs : Costs no_block
 unfolding no_block
-not_made_costs r = (nonneg_zero binary64, nonneg_zero binary64)
+no_block_costs = (nonneg_zero binary64, nonneg_zero binary64)
 
 -- the block of both views, or none
-abbrev block_of : LinearizedViews → Float → LocalLinearization
-block_of v w = cond (is_none v.refusal) (block v w) (no_block v.refusal)
+abbrev block_of : Result LinearizedViews Refusal → Float → LocalLinearization
+block_of v w = block_or_zeros (map_ok (λ x. block x w) v)
 
-pub made_costs : (camera1 camera2 : PinholeCamera) (pose : Pose) (correspondence : Correspondence) → Costs (linearize_point camera1 camera2 pose correspondence)
-unfolding linearize_point linearize_views weighted_views not_seen is_none
-made_costs camera1 camera2 pose correspondence = by (good_deviation w) (is_none first.refusal) (is_none second.refusal) refl refl refl
+pub made_costs : (rig : Rig) (correspondence : Correspondence) → Costs (block_or_zeros (linearize_point rig correspondence))
+unfolding linearize_point linearize_views
+made_costs rig correspondence = by (good_deviation w) (pixel_projection rig.camera1 correspondence.view1 correspondence.point) (pixel_projection rig.camera2 correspondence.view2 moved) refl refl refl
   where
     w : Float
     w = correspondence.inverse_deviation
 
     rotated : List Float
-    rotated = rotate pose.rotation correspondence.point
+    rotated = rotate rig.pose.rotation correspondence.point
 
     moved : List Float
-    moved = camera_point rotated pose.translation
+    moved = camera_point rotated rig.pose.translation
 
-    first : Projected
-    first = pixel_projection camera1 correspondence.view1 correspondence.point
-
-    second : Projected
-    second = pixel_projection camera2 correspondence.view2 moved
-
-    by : (g a b : Bool) → good_deviation w ≡ g → is_none first.refusal ≡ a → is_none second.refusal ≡ b
-        → Costs (block_of (cond g (cond a (cond b (weighted_views first second rotated pose w) (not_seen (at Rows.projection 2 0))) (not_seen (at Rows.projection 1 0))) (not_seen (of Rows.inverse_deviation))) w)
-    by true true true e f g =
-        block_costs first second rotated pose w (rw e tt) (projection_finite camera1 correspondence.view1 correspondence.point (rw f tt)) (projection_finite camera2 correspondence.view2 moved (rw g tt))
-    by true true false e f g = not_made_costs (at Rows.projection 2 0)
-    by true false b e f g = not_made_costs (at Rows.projection 1 0)
-    by false a b e f g = not_made_costs (of Rows.inverse_deviation)
+    by : (g : Bool) (a b : Result Projected Refusal) → good_deviation w ≡ g → pixel_projection rig.camera1 correspondence.view1 correspondence.point ≡ a → pixel_projection rig.camera2 correspondence.view2 moved ≡ b
+        → Costs (block_of (cond g (seen First a (λ p. seen Second b (λ q. Ok (weighted_views p q rotated rig.pose w)))) (Err (InverseDeviation 0))) w)
+    by true (Ok p) (Ok q) e f g =
+        block_costs p q rotated rig.pose w (rw e tt) (projection_finite rig.camera1 correspondence.view1 correspondence.point p f) (projection_finite rig.camera2 correspondence.view2 moved q g)
+    by true (Ok p) (Err r) e f g = no_block_costs
+    by true (Err r) b e f g = no_block_costs
+    by false a b e f g = no_block_costs

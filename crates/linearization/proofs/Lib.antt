@@ -1,3 +1,2 @@
 -- Laws of the block maker.
-pub mod Laws
 pub mod Costs

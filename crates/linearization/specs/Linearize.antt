@@ -1,13 +1,11 @@
 -- `linearize_point` of schur.rs with `Loss::L2`, the block maker of document 01: both views or their refusal, then the block.
-use Rattle.std.specs.Prelude.{cond, List, Float}
+use Rattle.std.specs.Prelude.{List, Float, Result, Ok, Err}
 use Rattle.number.specs.Binary64.{◌⊕◌, ◌⊗◌, zero}
 use Rattle.number.specs.Vectors.{tabulate, zeros}
-use Rattle.refusal.specs.Refused.{none, is_none}
-use Rattle.refusal.specs.declared.Row.{Row}
-use Rattle.projection.specs.declared.PinholeCamera.{PinholeCamera}
+use Rattle.refusal.specs.declared.Refusal.{Refusal}
 use Rattle.linearization.specs.declared.linearize.LocalLinearization.{LocalLinearization}
 use Rattle.linearization.specs.declared.terms.PointTerms.{PointTerms}
-use Rattle.views.specs.declared.Pose.{Pose}
+use Rattle.views.specs.declared.Rig.{Rig}
 use Rattle.views.specs.declared.Correspondence.{Correspondence}
 use Rattle.views.specs.declared.View1.{View1}
 use Rattle.views.specs.declared.View2.{View2}
@@ -16,9 +14,9 @@ use Rattle.loss.specs.Loss.{norm, loss_cost}
 use Rattle.views.specs.Views.{linearize_views}
 use Rattle.accumulate.specs.Accumulate.{pose_hessian, cross_hessian, point_hessian, pose_gradient, point_gradient}
 
--- every number beside a refusal is +0
-unfoldable pub no_block : Row → LocalLinearization
-no_block r = record {
+-- +0 everywhere: what stands for the block of a refused point
+unfoldable pub no_block : LocalLinearization
+no_block = record {
   pose_hessian = zeros 25;
   cross_hessian = zeros 15;
   point_hessian = zeros 9;
@@ -26,8 +24,17 @@ no_block r = record {
   point_gradient = zeros 3;
   cost = zero;
   squared_residual = zero;
-  refusal = r;
 }
+
+-- the block that was made, or +0 everywhere beside a refusal
+abbrev pub block_or_zeros : Result LocalLinearization Refusal → LocalLinearization
+block_or_zeros (Ok b) = b
+block_or_zeros (Err r) = no_block
+
+-- what f makes of the value, or the refusal
+abbrev pub map_ok : {A B : Type 0} → (A → B) → Result A Refusal → Result B Refusal
+map_ok f (Ok x) = Ok (f x)
+map_ok f (Err r) = Err r
 
 -- the pose's ten derivatives in view 1
 abbrev pub pose_rows : View1 → List Float
@@ -39,7 +46,6 @@ terms a b = record {
   cross_hessian = cross_hessian (pose_rows a) a.point b.pose b.point;
   point_hessian = point_hessian a.point b.point;
   point_gradient = point_gradient a.point a.residual b.point b.residual;
-  refusal = none;
 }
 
 unfoldable pub sums : LinearizedViews → Float → Float → LocalLinearization
@@ -55,7 +61,6 @@ sums v cost squared =
       point_gradient = t.point_gradient;
       cost = cost;
       squared_residual = squared;
-      refusal = none;
     }
 
 -- cost and squared residual are added from +0
@@ -65,10 +70,8 @@ block v inverse_deviation =
     let n = norm v.residual2 in
     sums v (zero ⊕ loss_cost (m ⊗ inverse_deviation) ⊕ loss_cost (n ⊗ inverse_deviation)) (zero ⊕ m ⊗ m ⊕ n ⊗ n)
 
-unfoldable pub linearize_point : PinholeCamera → PinholeCamera → Pose → Correspondence → LocalLinearization
-linearize_point camera1 camera2 pose correspondence =
-    let v = linearize_views camera1 camera2 pose correspondence in
-    cond (is_none v.refusal) (block v correspondence.inverse_deviation) (no_block v.refusal)
+unfoldable pub linearize_point : Rig → Correspondence → Result LocalLinearization Refusal
+linearize_point rig correspondence = map_ok (λ v. block v correspondence.inverse_deviation) (linearize_views rig correspondence)
 
 -- the same terms of a block that is made
 unfoldable pub point_terms : LocalLinearization → PointTerms
@@ -76,5 +79,4 @@ point_terms b = record {
   cross_hessian = b.cross_hessian;
   point_hessian = b.point_hessian;
   point_gradient = b.point_gradient;
-  refusal = b.refusal;
 }

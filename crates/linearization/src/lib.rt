@@ -9,4 +9,4 @@ mod linearize;
 mod terms;
 
 pub use linearize::{LocalLinearization, linearize_point};
-pub use terms::{PointTerms, point_terms, terms_of};
+pub use terms::{PointTerms, point_terms};

@@ -16,20 +16,22 @@ use Rattle.number.proofs.Order.{le_refl, nonneg_not_nan, nonneg_add}
 use Rattle.number.proofs.Monotone.{le_add, le_trans, zero-le, nonneg_zero}
 use Rattle.extrema.specs.Extrema.{min}
 use Rattle.extrema.proofs.Laws.{min_le_left, nonneg_min}
-use Rattle.refusal.specs.Rows as Rows
-use Rattle.refusal.specs.Refused.{of, none, is_none}
+use Rattle.std.specs.Prelude.{Result, Ok, Err, Some, None}
+use Rattle.std.specs.Result.{result_err}
+use Rattle.refusal.specs.Refused.{is_none}
+use Rattle.refusal.specs.declared.Refusal.{Refusal}
+use Rattle.refusal.specs.declared.Refusal.TheVariants.{Damping, Full}
 use Rattle.point_block.specs.Condition.{reciprocal_condition_number, is_weak}
 use Rattle.point_damping.specs.Damping.{good_damping}
 use Rattle.point_block.specs.Lone.{factor, lone_factor}
 use Rattle.point_block.proofs.Laws.{lone_factors, rcond_nonneg}
 use Rattle.linearization.specs.declared.linearize.LocalLinearization.{LocalLinearization}
 use Rattle.reduced_system.specs.declared.ReducedSystem.{ReducedSystem}
-use Rattle.reduced_system.specs.declared.Added.{Added}
 use Rattle.reduced_system.specs.Model.{new_system}
 use Rattle.elimination.specs.Elimination.{reduced_hessian, reduced_gradient, point_reduction}
 use Rattle.block_elimination.specs.BlockElimination.{is_zero, not_eliminated, eliminated, eliminate}
-use Rattle.list_of_adds.specs.System.{max_blocks, raised, taken_with, taken_by, taken, add}
-use Rattle.list_of_adds.specs.Calls.{Inputs, made, Call, at_damping, at_refused, added, results, after, after_blocks, Tally, factors, small_rcond, not_full, taken_in, tally, refusals, blocks_in, all, filter}
+use Rattle.list_of_adds.specs.System.{max_blocks, raised, taken_with, taken_by, taken, add, handed_back}
+use Rattle.list_of_adds.specs.Calls.{Inputs, made, Call, at_damping, at_refused, next, results, after, after_blocks, Tally, factors, small_rcond, not_full, taken_in, tally, refusals, blocks_in, all, filter}
 use Rattle.linearization.proofs.Costs.{Costs, made_costs}
 use Rattle.list_of_adds.specs.Claim.{CallByCall, final, SameEquations, Further, Claim}
 
@@ -38,16 +40,16 @@ use Rattle.list_of_adds.specs.Claim.{CallByCall, final, SameEquations, Further, 
 abbrev Counts : ReducedSystem → Type 0
 Counts s = T (leb s.weak_point_count s.block_count)
 
-add_bad : (s : ReducedSystem) (b : LocalLinearization) (x : Float) → good_damping x ≡ false → add s b x ≡ record { system = s; refusal = of Rows.damping }
+add_bad : (s : ReducedSystem) (b : LocalLinearization) (x : Float) → good_damping x ≡ false → add s b x ≡ Err Damping
 unfolding add
 add_bad s b x h = rw h refl
 
 module _ (d : Float) (good : T (good_damping d)) where
-  add_taken : (s : ReducedSystem) (b : LocalLinearization) → Counts s → not_full s.block_count ≡ true → add s b d ≡ record { system = taken s b d; refusal = none }
+  add_taken : (s : ReducedSystem) (b : LocalLinearization) → Counts s → not_full s.block_count ≡ true → add s b d ≡ Ok (taken s b d)
   unfolding add
   add_taken s b c e = rw (is_true (good_damping d) good, is_true (leb s.weak_point_count s.block_count) c, e) refl
 
-  add_full : (s : ReducedSystem) (b : LocalLinearization) → Counts s → not_full s.block_count ≡ false → add s b d ≡ record { system = s; refusal = of Rows.full }
+  add_full : (s : ReducedSystem) (b : LocalLinearization) → Counts s → not_full s.block_count ≡ false → add s b d ≡ Err Full
   unfolding add
   add_full s b c e = rw (is_true (good_damping d) good, is_true (leb s.weak_point_count s.block_count) c, e) refl
 
@@ -267,7 +269,7 @@ module _ (d : Float) (good : T (good_damping d)) where
           u_free = is_true (not_full u.block_count) (lt→ltb u.block_count max_blocks (lt_of_le_of_lt below (ltb→lt s.block_count max_blocks (rw free tt))))
 
           by : (x : Bool) → factors d b ≡ x → SameEquations end (after_blocks d u (cond x (b ∷ filter (factors d) bs) (filter (factors d) bs)))
-          by true e = subst (λ (a : Added). SameEquations end (after_blocks d a.system (filter (factors d) bs))) (sym (add_taken u b c u_free))
+          by true e = subst (λ (a : Result ReducedSystem Refusal). SameEquations end (after_blocks d (handed_back u a) (filter (factors d) bs))) (sym (add_taken u b c u_free))
               (f.elimination (taken u b d) (counts_taken u b c) (rw (count_taken u b, count_taken s b) (le→leb (suc u.block_count) (suc s.block_count) (omega (arith, below))))
               (equations_factored s u b same e))
           by false e = f.elimination u c (rw (count_taken s b) (le→leb u.block_count (suc s.block_count) (omega (arith, below)))) (equations_refused s u b same e)
@@ -276,7 +278,7 @@ module _ (d : Float) (good : T (good_damping d)) where
       from_taken = record {
         sound = f.sound;
         tallied = f.tallied;
-        blocks_alone = f.blocks_alone ∙ sym (ap (λ (a : Added). after_blocks d a.system bs) (add_taken s b k.counts free));
+        blocks_alone = f.blocks_alone ∙ sym (ap (λ (a : Result ReducedSystem Refusal). after_blocks d (handed_back s a) bs) (add_taken s b k.counts free));
         flag = from_flag;
         elimination = from_elimination;
         weak_zero = from_weak;
@@ -293,38 +295,38 @@ module _ (d : Float) (good : T (good_damping d)) where
   from s (at_damping i ∷ cs) k = by (not_full s.block_count) refl (λ h. from (taken s (made i) d) cs h) (from s cs k)
     where
       by : (x : Bool) → not_full s.block_count ≡ x → (Sound (taken s (made i) d) → Rest cs (taken s (made i) d)) → Rest cs s
-          → From s (after d (add s (made i) d).system cs) (tally d (cond x (taken_in d (tally_of s) (made i)) (tally_of s)) cs)
+          → From s (after d (handed_back s (add s (made i) d)) cs) (tally d (cond x (taken_in d (tally_of s) (made i)) (tally_of s)) cs)
           (cond x (made i ∷ blocks_in (suc s.block_count) cs) (blocks_in s.block_count cs))
       by true e f g = rw (add_taken s (made i) k.counts e)
           (from_taken s i k e (after d (taken s (made i) d) cs) (tally d (taken_in d (tally_of s) (made i)) cs) (blocks_in (suc s.block_count) cs)
           (rw (← tally_taken s (made i), ← count_taken s (made i)) (f (next_sound s i k e))))
       by false e f g = rw (add_full s (made i) k.counts e) g
 
-  refused_each : (s : ReducedSystem) (cs : List Call) → Sound s → map (λ (r : Added). r.refusal) (results d s cs) ≡ refusals d (tally_of s) cs
+  refused_each : (s : ReducedSystem) (cs : List Call) → Sound s → map result_err (results d s cs) ≡ refusals d (tally_of s) cs
   refused_each s [] k = refl
-  refused_each s (at_refused i x h ∷ cs) k = rw (add_bad s (made i) x h) (ap (λ l. of Rows.damping ∷ l) (refused_each s cs k))
+  refused_each s (at_refused i x h ∷ cs) k = rw (add_bad s (made i) x h) (ap (λ l. Some Damping ∷ l) (refused_each s cs k))
   refused_each s (at_damping i ∷ cs) k = by (not_full s.block_count) refl (λ h. refused_each (taken s (made i) d) cs h) (refused_each s cs k)
     where
       by : (x : Bool) → not_full s.block_count ≡ x
-          → (Sound (taken s (made i) d) → map (λ (r : Added). r.refusal) (results d (taken s (made i) d) cs) ≡ refusals d (tally_of (taken s (made i) d)) cs)
-          → map (λ (r : Added). r.refusal) (results d s cs) ≡ refusals d (tally_of s) cs
-          → ((add s (made i) d).refusal ∷ map (λ (r : Added). r.refusal) (results d (add s (made i) d).system cs))
-          ≡ cond x none (of Rows.full) ∷ refusals d (cond x (taken_in d (tally_of s) (made i)) (tally_of s)) cs
-      by true e f g = rw (add_taken s (made i) k.counts e, ← tally_taken s (made i)) (ap (λ l. none ∷ l) (f (next_sound s i k e)))
-      by false e f g = rw (add_full s (made i) k.counts e) (ap (λ l. of Rows.full ∷ l) g)
+          → (Sound (taken s (made i) d) → map result_err (results d (taken s (made i) d) cs) ≡ refusals d (tally_of (taken s (made i) d)) cs)
+          → map result_err (results d s cs) ≡ refusals d (tally_of s) cs
+          → (result_err (add s (made i) d) ∷ map result_err (results d (handed_back s (add s (made i) d)) cs))
+          ≡ cond x None (Some Full) ∷ refusals d (cond x (taken_in d (tally_of s) (made i)) (tally_of s)) cs
+      by true e f g = rw (add_taken s (made i) k.counts e, ← tally_taken s (made i)) (ap (λ l. None ∷ l) (f (next_sound s i k e)))
+      by false e f g = rw (add_full s (made i) k.counts e) (ap (λ l. Some Full ∷ l) g)
 
   after_append : (s : ReducedSystem) (cs more : List Call) → after d s (cs ++ more) ≡ after d (after d s cs) more
   after_append s [] more = refl
-  after_append s (c ∷ cs) more = after_append (added d s c).system cs more
+  after_append s (c ∷ cs) more = after_append (next d s c) cs more
 
   -- whoever runs the list call by call has its results
-  ran_each : (s : ReducedSystem) (cs : List Call) (ran : List Added) → CallByCall d s cs ran → (ran ≡ results d s cs) × (final s ran ≡ after d s cs)
+  ran_each : (s : ReducedSystem) (cs : List Call) (ran : List (Result ReducedSystem Refusal)) → CallByCall d s cs ran → (ran ≡ results d s cs) × (final s ran ≡ after d s cs)
   ran_each s [] [] h = (refl, refl)
   ran_each s [] (r ∷ rs) h = absurd h
   ran_each s (c ∷ cs) [] h = absurd h
   ran_each s (c ∷ cs) (r ∷ rs) h =
-      let k = ran_each r.system cs rs h.1 in
-      subst (λ (x : Added). (r ∷ rs ≡ x ∷ results d x.system cs) × (final r.system rs ≡ after d x.system cs)) h.0 (ap (λ l. r ∷ l) k.0, k.1)
+      let k = ran_each (handed_back s r) cs rs h.1 in
+      subst (λ (x : Result ReducedSystem Refusal). (r ∷ rs ≡ x ∷ results d (handed_back s x) cs) × (final (handed_back s r) rs ≡ after d (handed_back s x) cs)) h.0 (ap (λ l. r ∷ l) k.0, k.1)
 
   sound_new : Sound new_system
   unfolding new_system nonneg of_bits fits

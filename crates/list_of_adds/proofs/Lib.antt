@@ -1,3 +1,2 @@
 -- Laws of the system, and the claim on lists.
-pub mod Adding
 pub mod Claim

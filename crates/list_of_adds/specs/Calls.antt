@@ -1,10 +1,10 @@
 -- Calls of `add`, one after the other, and the tally of them: document 01, "A list of adds".
-use Rattle.std.specs.Prelude.{ℕ, suc, ◌≡◌, Bool, true, false, not, ◌&&◌, ◌||◌, cond, List, [], ◌∷◌, ltb, Float}
+use Rattle.std.specs.Prelude.{ℕ, suc, ◌≡◌, Bool, true, false, not, ◌&&◌, ◌||◌, cond, List, [], ◌∷◌, ltb, Float, Result, Option, Some, None}
 use Rattle.std.specs.Float.Ieee.{le, eq}
 use Rattle.number.specs.Binary64.{zero, epsilon192}
-use Rattle.refusal.specs.Rows as Rows
-use Rattle.refusal.specs.Refused.{of, none, is_none}
-use Rattle.refusal.specs.declared.Row.{Row}
+use Rattle.refusal.specs.Refused.{is_none}
+use Rattle.refusal.specs.declared.Refusal.{Refusal}
+use Rattle.refusal.specs.declared.Refusal.TheVariants.{Damping, Full}
 use Rattle.projection.specs.declared.PinholeCamera.{PinholeCamera}
 use Rattle.point_damping.specs.Damping.{good_damping}
 use Rattle.point_block.specs.Lone.{lone_factor}
@@ -12,9 +12,8 @@ use Rattle.linearization.specs.declared.linearize.LocalLinearization.{LocalLinea
 use Rattle.views.specs.declared.Pose.{Pose}
 use Rattle.views.specs.declared.Correspondence.{Correspondence}
 use Rattle.reduced_system.specs.declared.ReducedSystem.{ReducedSystem}
-use Rattle.reduced_system.specs.declared.Added.{Added}
 use Rattle.linearization.specs.Linearize.{linearize_point}
-use Rattle.list_of_adds.specs.System.{max_blocks, add}
+use Rattle.list_of_adds.specs.System.{max_blocks, add, handed_back}
 
 -- what a block is made from
 pub record Inputs : Type 0 where
@@ -34,24 +33,28 @@ pub data Call : Type 0 where
 
 -- ---- `add`, run call by call
 
-abbrev pub added : Float → ReducedSystem → Call → Added
+abbrev pub added : Float → ReducedSystem → Call → Result ReducedSystem Refusal
 added d s (at_damping i) = add s (made i) d
 added d s (at_refused i x h) = add s (made i) x
 
--- what each call hands back
-abbrev pub results : Float → ReducedSystem → List Call → List Added
+-- the system after one of them
+abbrev pub next : Float → ReducedSystem → Call → ReducedSystem
+next d s c = handed_back s (added d s c)
+
+-- what each call answers
+abbrev pub results : Float → ReducedSystem → List Call → List (Result ReducedSystem Refusal)
 results d s [] = []
-results d s (c ∷ cs) = added d s c ∷ results d (added d s c).system cs
+results d s (c ∷ cs) = added d s c ∷ results d (next d s c) cs
 
 -- the system after all of them
 abbrev pub after : Float → ReducedSystem → List Call → ReducedSystem
 after d s [] = s
-after d s (c ∷ cs) = after d (added d s c).system cs
+after d s (c ∷ cs) = after d (next d s c) cs
 
 -- blocks alone, all at the list's damping
 abbrev pub after_blocks : Float → ReducedSystem → List LocalLinearization → ReducedSystem
 after_blocks d s [] = s
-after_blocks d s (b ∷ bs) = after_blocks d (add s b d).system bs
+after_blocks d s (b ∷ bs) = after_blocks d (handed_back s (add s b d)) bs
 
 -- ---- the tally, fed only the blocks and the dampings
 
@@ -96,11 +99,11 @@ abbrev pub tally : Float → Tally → List Call → Tally
 tally d t [] = t
 tally d t (c ∷ cs) = tally d (counted d t c) cs
 
-abbrev pub refusal_of : Tally → Call → Row
-refusal_of t (at_damping i) = cond (not_full t.blocks) none (of Rows.full)
-refusal_of t (at_refused i x h) = of Rows.damping
+abbrev pub refusal_of : Tally → Call → Option Refusal
+refusal_of t (at_damping i) = cond (not_full t.blocks) None (Some Full)
+refusal_of t (at_refused i x h) = Some Damping
 
-abbrev pub refusals : Float → Tally → List Call → List Row
+abbrev pub refusals : Float → Tally → List Call → List (Option Refusal)
 refusals d t [] = []
 refusals d t (c ∷ cs) = refusal_of t c ∷ refusals d (counted d t c) cs
 

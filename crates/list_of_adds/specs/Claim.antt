@@ -1,25 +1,27 @@
 -- Demand 3: what holds of every list of calls of `add` from a new system, at a damping that row 3 lets through. One record, with a field for each sentence.
-use Rattle.std.specs.Prelude.{ℕ, ◌+◌, ◌≡◌, true, false, not, ◌&&◌, List, [], ◌∷◌, ◌++◌, map, T, leb, length, Float}
+use Rattle.std.specs.Prelude.{ℕ, ◌+◌, ◌≡◌, true, false, not, ◌&&◌, List, [], ◌∷◌, ◌++◌, map, T, leb, length, Float, Result}
+use Rattle.std.specs.Result.{result_err}
 use Rattle.std.specs.Float.Ieee.{le}
 use Rattle.linearization.specs.declared.linearize.LocalLinearization.{LocalLinearization}
 use Rattle.reduced_system.specs.declared.ReducedSystem.{ReducedSystem}
-use Rattle.reduced_system.specs.declared.Added.{Added}
+use Rattle.refusal.specs.declared.Refusal.{Refusal}
 use Rattle.reduced_system.specs.Model.{new_system}
+use Rattle.list_of_adds.specs.System.{handed_back}
 use Rattle.list_of_adds.specs.Calls.{Call, added, results, after, after_blocks, Tally, start, factors, small_rcond, at_zero, tally, refusals, blocks_in, all, filter}
 
--- each handed-back system is what the definition of `add` gives for the call and the system handed back before
-abbrev pub CallByCall : Float → ReducedSystem → List Call → List Added → Type 0
+-- each answer is what the definition of `add` gives for the call and the system that the call before left
+abbrev pub CallByCall : Float → ReducedSystem → List Call → List (Result ReducedSystem Refusal) → Type 0
 CallByCall d s [] [] = Unit {0}
 CallByCall d s [] (r ∷ rs) = ⊥
 CallByCall d s (c ∷ cs) [] = ⊥
-CallByCall d s (c ∷ cs) (r ∷ rs) = (r ≡ added d s c) × CallByCall d r.system cs rs
+CallByCall d s (c ∷ cs) (r ∷ rs) = (r ≡ added d s c) × CallByCall d (handed_back s r) cs rs
 
-abbrev pub final : ReducedSystem → List Added → ReducedSystem
+abbrev pub final : ReducedSystem → List (Result ReducedSystem Refusal) → ReducedSystem
 final s [] = s
-final s (r ∷ rs) = final r.system rs
+final s (r ∷ rs) = final (handed_back s r) rs
 
 -- Any run of which each call meets the definition of `add` has the list's own figures. They are those of the blocks taken in, so that a refused call leaves no trace.
-pub record Figures (d : Float) (calls : List Call) (ran : List Added) : Type 0 where
+pub record Figures (d : Float) (calls : List Call) (ran : List (Result ReducedSystem Refusal)) : Type 0 where
   pub each : ran ≡ results d new_system calls
   pub last : final new_system ran ≡ after d new_system calls
   pub blocks_alone : final new_system ran ≡ after_blocks d new_system (blocks_in 0 calls)
@@ -28,7 +30,7 @@ pub record Tallied (d : Float) (calls : List Call) (t : Tally) : Type 0 where
   pub flag : (after d new_system calls).valid ≡ t.flag
   pub blocks : (after d new_system calls).block_count ≡ t.blocks
   pub weak : (after d new_system calls).weak_point_count ≡ t.weak
-  pub refused : map (λ (r : Added). r.refusal) (results d new_system calls) ≡ refusals d start calls
+  pub refused : map result_err (results d new_system calls) ≡ refusals d start calls
 
 pub record SameEquations (s t : ReducedSystem) : Type 0 where
   pub hessian : s.hessian ≡ t.hessian
@@ -48,7 +50,7 @@ pub record Further (s t : ReducedSystem) : Type 0 where
   pub flag : s.valid ≡ false → t.valid ≡ false
 
 pub record Claim (d : Float) (calls : List Call) : Type 0 where
-  pub figures : (ran : List Added) → CallByCall d new_system calls ran → Figures d calls ran
+  pub figures : (ran : List (Result ReducedSystem Refusal)) → CallByCall d new_system calls ran → Figures d calls ran
   pub tallied : Tallied d calls (tally d start calls)
   pub flag : (after d new_system calls).valid ≡ all (factors d) (blocks_in 0 calls)
   pub elimination : SameEquations (after d new_system calls) (after_blocks d new_system (filter (factors d) (blocks_in 0 calls)))

@@ -1,15 +1,15 @@
 -- A block taken into the reduced system: `add` of schur.rs. Document 01, "The system".
-use Rattle.std.specs.Prelude.{ℕ, suc, ◌<◌, ◌≤◌, Bool, ◌&&◌, cond, leb, ltb, Float}
+use Rattle.std.specs.Prelude.{ℕ, suc, ◌<◌, ◌≤◌, Bool, ◌&&◌, cond, leb, ltb, Float, Result, Ok, Err}
+use Rattle.std.specs.Result.{result_unwrap_or}
 use Rattle.extrema.specs.Extrema.{max}
 use Rattle.number.specs.Binary64.{◌⊕◌}
-use Rattle.refusal.specs.Rows as Rows
-use Rattle.refusal.specs.Refused.{of, none}
+use Rattle.refusal.specs.declared.Refusal.{Refusal}
+use Rattle.refusal.specs.declared.Refusal.TheVariants.{Damping, WeakCount, Full}
 use Rattle.point_damping.specs.Damping.{good_damping}
 use Rattle.linearization.specs.declared.linearize.LocalLinearization.{LocalLinearization}
 use Rattle.gradient_norm.specs.GradientNorm.{point_gradient_norm}
 use Rattle.pose_model.specs.PoseModel.{sum5, diagonal5}
 use Rattle.reduced_system.specs.declared.ReducedSystem.{ReducedSystem}
-use Rattle.reduced_system.specs.declared.Added.{Added}
 use Rattle.block_elimination.specs.declared.Change.{Change}
 use Rattle.block_elimination.specs.BlockElimination.{eliminate}
 
@@ -51,13 +51,13 @@ taken_by s b e = taken_with s b e (raised e.weak s.weak_point_count)
 unfoldable pub taken : ReducedSystem → LocalLinearization → Float → ReducedSystem
 taken s b damping = taken_by s b (eliminate s b damping)
 
--- `add` tests rows 3, 12, 13; refused, it hands the system back unchanged
-unfoldable pub add : ReducedSystem → LocalLinearization → Float → Added
+-- `add` tests rows 3, 12, 13
+unfoldable pub add : ReducedSystem → LocalLinearization → Float → Result ReducedSystem Refusal
 add s b damping =
     cond (good_damping damping)
-    (cond (leb s.weak_point_count s.block_count)
-    (cond (ltb s.block_count max_blocks)
-    (record { system = taken s b damping; refusal = none })
-    (record { system = s; refusal = of Rows.full }))
-    (record { system = s; refusal = of Rows.weak_count }))
-    (record { system = s; refusal = of Rows.damping })
+    (cond (leb s.weak_point_count s.block_count) (cond (ltb s.block_count max_blocks) (Ok (taken s b damping)) (Err Full)) (Err WeakCount))
+    (Err Damping)
+
+-- the system that a call leaves its caller with: the one handed back, and, where it is refused, the one that the caller had
+abbrev pub handed_back : ReducedSystem → Result ReducedSystem Refusal → ReducedSystem
+handed_back s r = result_unwrap_or r s

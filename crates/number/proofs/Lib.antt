@@ -6,3 +6,4 @@ pub mod Order
 pub mod Monotone
 pub mod Finite
 pub mod Fill
+pub mod FromFn

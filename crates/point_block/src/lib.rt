@@ -10,70 +10,51 @@ ghost use Rattle.point_block.specs.Condition as Condition;
 ghost use Rattle.point_block.specs.Factor as Factor;
 ghost use Rattle.point_block.specs.Lone as Lone;
 
-use refusal::Row;
+use refusal::Refusal;
 
-// The inverse of a symmetric 3 by 3 block, packed lower triangle: 00, 10, 11, 20, 21, 22. Beside a
-// refusal every number is +0, here and in the struct below.
+// The inverse of a symmetric 3 by 3 block, packed lower triangle: 00, 10, 11, 20, 21, 22
 #[derive(Clone, Copy)]
 pub struct PointBlockFactor {
     pub inverse: [f64; 6],
-    pub refusal: Row,
 }
 
 // A factor with its rcond: document 01's lone factor
 #[derive(Clone, Copy)]
 pub struct LoneFactor {
-    pub inverse: [f64; 6],
+    pub factor: PointBlockFactor,
     pub rcond: f64,
-    pub refusal: Row,
 }
 
 impl PointBlockFactor {
     // The lone factor: tests row 3, then row 10.
-    pub fn new(matrix: [f64; 9], damping: f64) -> LoneFactor
+    #[tactic(auto, unfolding(crate::specs::Lone::lone_factor))]
+    pub fn new(matrix: [f64; 9], damping: f64) -> Result<LoneFactor, Refusal>
         ensures { result ≡ Lone.lone_factor matrix damping }
     {
         if !point_damping::good_damping(damping) {
-            return lone_refused(refusal::DAMPING);
+            return Err(Refusal::Damping);
         }
-        let factor = Self::factor(matrix, damping);
-        let refusal = factor.refusal;
-        if !refusal.is_none() {
-            return lone_refused(refusal::NOT_FACTORED);
-        }
-        let inverse = factor.inverse;
-        LoneFactor {
-            inverse,
-            rcond: factor.reciprocal_condition_number(matrix),
-            refusal: Row::none(),
-        }
+        let factor = Self::factor(matrix, damping)?;
+        let rcond = factor.reciprocal_condition_number(matrix);
+        Ok(LoneFactor { factor, rcond })
     }
 
     // The factor of the matrix at a damping: the Rust's `new`. Row 3 is not tested here.
-    pub fn factor(matrix: [f64; 9], damping: f64) -> Self
+    #[tactic(auto, unfolding(crate::specs::Lone::factor))]
+    pub fn factor(matrix: [f64; 9], damping: f64) -> Result<Self, Refusal>
         ensures { result ≡ Lone.factor matrix damping }
     {
-        let damped = point_damping::damped_matrix(matrix, damping);
-        let refusal = damped.refusal;
-        if !refusal.is_none() {
-            return not_factored();
-        }
-        let damped_matrix = damped.matrix;
-        Self::factor_damped(damped_matrix)
+        Self::factor_damped(point_damping::damped_matrix(matrix, damping)?)
     }
 
     // The factor of a matrix that is damped already.
-    pub fn factor_damped(damped: [f64; 9]) -> Self
+    #[tactic(auto, unfolding(crate::specs::Factor::factor_damped))]
+    pub fn factor_damped(damped: [f64; 9]) -> Result<Self, Refusal>
         ensures { result ≡ Factor.factor_damped damped }
     {
-        let inverted = cholesky::invert(damped, point_damping::floored_diagonal(damped));
-        if !inverted.good {
-            return not_factored();
-        }
-        let inverse = inverted.values;
-        Self {
-            inverse,
-            refusal: Row::none(),
+        match cholesky::invert(damped, point_damping::floored_diagonal(damped)) {
+            Some(inverse) => Ok(Self { inverse }),
+            None => Err(Refusal::NotFactored),
         }
     }
 
@@ -95,6 +76,7 @@ impl PointBlockFactor {
     }
 
     // 1 ÷ (norm of the matrix × norm of the inverse), and 0 where that product is not positive and finite.
+    #[tactic(auto, unfolding(crate::specs::Condition::reciprocal_condition_number))]
     pub fn reciprocal_condition_number(self, matrix: [f64; 9]) -> f64
         ensures { result ≡ Condition.reciprocal_condition_number self.inverse matrix }
     {
@@ -107,6 +89,7 @@ impl PointBlockFactor {
     }
 
     // The inverse by columns, so that ∞ × 0 in a solve shows.
+    #[tactic(auto, unfolding(crate::specs::Condition::inverse_matrix))]
     fn inverse_matrix(self) -> [f64; 9]
         ensures { result ≡ Condition.inverse_matrix self.inverse }
     {
@@ -117,26 +100,8 @@ impl PointBlockFactor {
     }
 }
 
-fn not_factored() -> PointBlockFactor
-    ensures { result ≡ Factor.not_factored }
-{
-    PointBlockFactor {
-        inverse: [0.0; 6],
-        refusal: Row::of(refusal::NOT_FACTORED),
-    }
-}
-
-fn lone_refused(row: u32) -> LoneFactor
-    ensures { result ≡ Lone.refused row }
-{
-    LoneFactor {
-        inverse: [0.0; 6],
-        rcond: 0.0,
-        refusal: Row::of(row),
-    }
-}
-
 // The largest sum of a row's absolute values; each sum begins at −0.
+#[tactic(auto, unfolding(crate::specs::Condition::infinity_norm))]
 fn infinity_norm(m: [f64; 9]) -> f64
     ensures { result ≡ Condition.infinity_norm m }
 {

@@ -1,2 +1,2 @@
 -- Steps of the damping, for the proofs of this crate.
-mod Laws
+pub mod Laws

@@ -1,14 +1,12 @@
 -- The damping of a 3 by 3 point block, `damping_diagonal` and `damped_matrix` of point_block.rs. A matrix is nine numbers, row by row.
-use Rattle.std.specs.Prelude.{Bool, not, ◌&&◌, cond, List, [], ◌∷◌, Float}
+use Rattle.std.specs.Prelude.{Bool, not, ◌&&◌, cond, List, [], ◌∷◌, Float, Result, Ok, Err}
 use Rattle.std.specs.Float.Ieee.{lt}
 use Rattle.number.specs.Binary64.{◌⊕◌, ◌⊗◌, zero, epsilon64}
 use Rattle.number.specs.Parts.{is_finite, positive_finite}
-use Rattle.number.specs.Vectors.{◌!◌, zeros}
+use Rattle.number.specs.Vectors.{◌!◌}
 use Rattle.extrema.specs.Extrema.{max, largest}
-use Rattle.refusal.specs.Rows as Rows
-use Rattle.refusal.specs.Refused.{of, none, is_none}
-use Rattle.point_damping.specs.declared.DampingDiagonal.{DampingDiagonal}
-use Rattle.point_damping.specs.declared.DampedMatrix.{DampedMatrix}
+use Rattle.refusal.specs.declared.Refusal.{Refusal}
+use Rattle.refusal.specs.declared.Refusal.TheVariants.{NotFactored}
 
 -- row 3: damping not finite or below 0
 unfoldable pub good_damping : Float → Bool
@@ -24,11 +22,8 @@ floored m =
     max (m ! 0) floor ∷ max (m ! 4) floor ∷ max (m ! 8) floor ∷ []
 
 -- "No positive finite largest diagonal: no factor": row 10
-unfoldable pub damping_diagonal : List Float → DampingDiagonal
-damping_diagonal m =
-    cond (positive_finite (largest_diagonal m))
-    (record { values = floored m; refusal = none })
-    (record { values = zeros 3; refusal = of Rows.not_factored })
+unfoldable pub damping_diagonal : List Float → Result (List Float) Refusal
+damping_diagonal m = cond (positive_finite (largest_diagonal m)) (Ok (floored m)) (Err NotFactored)
 
 -- the matrix with damping times those entries added along the diagonal
 unfoldable pub added_diagonal : List Float → Float → List Float → List Float
@@ -44,9 +39,5 @@ added_diagonal m damping d =
     ∷ m ! 8 ⊕ damping ⊗ d ! 2
     ∷ []
 
-unfoldable pub damped_matrix : List Float → Float → DampedMatrix
-damped_matrix m damping =
-    let diagonal = damping_diagonal m in
-    cond (is_none diagonal.refusal)
-    (record { matrix = added_diagonal m damping diagonal.values; refusal = diagonal.refusal })
-    (record { matrix = zeros 9; refusal = diagonal.refusal })
+unfoldable pub damped_matrix : List Float → Float → Result (List Float) Refusal
+damped_matrix m damping = elim (damping_diagonal m) [ Ok d ↦ Ok (added_diagonal m damping d) | Err r ↦ Err r ]

@@ -8,60 +8,34 @@
 ghost use Rattle.std.specs.Prelude.{◌≡◌};
 ghost use Rattle.point_damping.specs.Damping as Damping;
 
-use refusal::Row;
-
-// What damping is multiplied with. Beside a refusal every number is +0, here and in the struct below.
-#[derive(Clone, Copy)]
-pub struct DampingDiagonal {
-    pub values: [f64; 3],
-    pub refusal: Row,
-}
-
-#[derive(Clone, Copy)]
-pub struct DampedMatrix {
-    pub matrix: [f64; 9],
-    pub refusal: Row,
-}
+use refusal::Refusal;
 
 // Row 3 lets a damping through that is finite and not below 0.
+#[tactic(auto, unfolding(crate::specs::Damping::good_damping))]
 pub fn good_damping(damping: f64) -> bool
     ensures { result ≡ Damping.good_damping damping }
 {
     number::is_finite(damping) & !(damping < 0.0)
 }
 
-pub fn damped_matrix(matrix: [f64; 9], damping: f64) -> DampedMatrix
+#[tactic(auto, unfolding(crate::specs::Damping::damped_matrix))]
+pub fn damped_matrix(matrix: [f64; 9], damping: f64) -> Result<[f64; 9], Refusal>
     ensures { result ≡ Damping.damped_matrix matrix damping }
 {
-    let diagonal = damping_diagonal(matrix);
-    let refusal = diagonal.refusal;
-    if !refusal.is_none() {
-        return DampedMatrix {
-            matrix: [0.0; 9],
-            refusal,
-        };
-    }
-    let values = diagonal.values;
-    DampedMatrix {
-        matrix: added_diagonal(matrix, damping, values),
-        refusal,
-    }
+    let diagonal = damping_diagonal(matrix)?;
+    Ok(added_diagonal(matrix, damping, diagonal))
 }
 
-pub fn damping_diagonal(matrix: [f64; 9]) -> DampingDiagonal
+// What damping is multiplied with. Row 10 where no diagonal entry is positive and finite.
+#[tactic(auto, unfolding(crate::specs::Damping::damping_diagonal))]
+pub fn damping_diagonal(matrix: [f64; 9]) -> Result<[f64; 3], Refusal>
     ensures { result ≡ Damping.damping_diagonal matrix }
 {
     let scale = largest_diagonal(matrix);
     if !number::positive_finite(scale) {
-        return DampingDiagonal {
-            values: [0.0; 3],
-            refusal: Row::of(refusal::NOT_FACTORED),
-        };
+        return Err(Refusal::NotFactored);
     }
-    DampingDiagonal {
-        values: floored(matrix, scale),
-        refusal: Row::none(),
-    }
+    Ok(floored(matrix, scale))
 }
 
 // The diagonal, but no entry below 64ε of the largest.
@@ -71,6 +45,7 @@ pub fn floored_diagonal(m: [f64; 9]) -> [f64; 3]
     floored(m, largest_diagonal(m))
 }
 
+#[tactic(auto, unfolding(crate::specs::Damping::largest_diagonal))]
 fn largest_diagonal(m: [f64; 9]) -> f64
     ensures { result ≡ Damping.largest_diagonal m }
 {
@@ -78,6 +53,7 @@ fn largest_diagonal(m: [f64; 9]) -> f64
 }
 
 // The floored diagonal, from the largest entry, which is `scale`.
+#[tactic(auto, using(crate::proofs::Laws::floor_clear), unfolding(crate::specs::Damping::floored))]
 fn floored(m: [f64; 9], scale: f64) -> [f64; 3]
     requires { scale ≡ Damping.largest_diagonal m }
     ensures { result ≡ Damping.floored m }
@@ -90,6 +66,7 @@ fn floored(m: [f64; 9], scale: f64) -> [f64; 3]
     ]
 }
 
+#[tactic(auto, unfolding(crate::specs::Damping::added_diagonal))]
 fn added_diagonal(m: [f64; 9], damping: f64, d: [f64; 3]) -> [f64; 9]
     ensures { result ≡ Damping.added_diagonal m damping d }
 {

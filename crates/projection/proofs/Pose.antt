@@ -8,12 +8,14 @@ use lib.Dec.{T}
 use lib.Ieee.{Float, binary64}
 use lib.Ieee.Bits.{is_true}
 use lib.Ieee.Fits.{and_l, and_r}
+use Rattle.std.specs.Prelude.{Err}
+use Rattle.refusal.specs.declared.Refusal.TheVariants.{LoneProjection}
 use Rattle.number.specs.Binary64.{◌⊕◌, ◌⊗◌}
 use Rattle.number.specs.Parts.{is_finite}
 use Rattle.number.specs.Vectors.{◌!◌}
 use Rattle.number.proofs.Finite.{finite_add, finite_mul}
 use Rattle.projection.specs.declared.PinholeCamera.{PinholeCamera}
-use Rattle.projection.specs.Projection.{in_front, not_projectable, pixel_projection}
+use Rattle.projection.specs.Projection.{in_front, pixel_projection}
 use Rattle.projection.specs.Pose.{rotate, camera_point, NotProjectable}
 use Rattle.projection.proofs.Laws.{behind}
 
@@ -83,12 +85,12 @@ module _ (rotation translation point : List Float) where
 
   -- where being in front would make x finite and it is not, nothing is projected
   refused : (x : Float) → (T (in_front moved) → T (is_finite x)) → is_finite x ≡ false → (camera : PinholeCamera) (observation : List Float)
-      → pixel_projection camera observation moved ≡ not_projectable
+      → pixel_projection camera observation moved ≡ Err LoneProjection
   refused x k n camera observation = by (in_front moved) refl k
     where
-      by : (b : Bool) → in_front moved ≡ b → (T b → T (is_finite x)) → pixel_projection camera observation moved ≡ not_projectable
+      by : (b : Bool) → in_front moved ≡ b → (T b → T (is_finite x)) → pixel_projection camera observation moved ≡ Err LoneProjection
       by true e k = absurd (true≢false (sym (is_true (is_finite x) (k tt)) ∙ n))
-      by false e k = sym (behind camera observation moved false (sym e) not_projectable refl refl)
+      by false e k = behind camera observation moved e
 
 pub not_projectable_lem : (rotation translation : List Float) → NotProjectable rotation translation
 not_projectable_lem rotation translation = record {

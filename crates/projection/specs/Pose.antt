@@ -1,10 +1,11 @@
 -- A point in the second camera's frame: turned by the rows of the rotation, then moved by the translation, as `linearize_point` of schur.rs does.
-use Rattle.std.specs.Prelude.{◌≡◌, false, List, [], ◌∷◌, ℕ, ◌<◌, Float}
+use Rattle.std.specs.Prelude.{◌≡◌, false, List, [], ◌∷◌, ℕ, ◌<◌, Float, Err}
 use Rattle.number.specs.Binary64.{◌⊕◌, ◌⊗◌}
 use Rattle.number.specs.Parts.{is_finite}
 use Rattle.number.specs.Vectors.{◌!◌}
+use Rattle.refusal.specs.declared.Refusal.TheVariants.{LoneProjection}
 use Rattle.projection.specs.declared.PinholeCamera.{PinholeCamera}
-use Rattle.projection.specs.Projection.{not_projectable, pixel_projection}
+use Rattle.projection.specs.Projection.{pixel_projection}
 
 -- `rotate` of schur.rs; the rotation is given by rows
 unfoldable pub rotate : List Float → List Float → List Float
@@ -20,6 +21,6 @@ camera_point rotated translation = rotated ! 0 ⊕ translation ! 0 ∷ rotated !
 -- "A non-finite rotation or translation makes view 2 not projectable" (document 01, "Modules in port order"): whatever the camera, the observation and the point.
 pub record NotProjectable (rotation translation : List Float) : Type 0 where
   pub bad_rotation : (i : ℕ) → i < 9 → is_finite (rotation ! i) ≡ false → (camera : PinholeCamera) (observation point : List Float)
-      → pixel_projection camera observation (camera_point (rotate rotation point) translation) ≡ not_projectable
+      → pixel_projection camera observation (camera_point (rotate rotation point) translation) ≡ Err LoneProjection
   pub bad_translation : (i : ℕ) → i < 3 → is_finite (translation ! i) ≡ false → (camera : PinholeCamera) (observation point : List Float)
-      → pixel_projection camera observation (camera_point (rotate rotation point) translation) ≡ not_projectable
+      → pixel_projection camera observation (camera_point (rotate rotation point) translation) ≡ Err LoneProjection

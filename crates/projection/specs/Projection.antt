@@ -1,12 +1,12 @@
 -- `pixel_projection` of projection.rs, operation by operation in the Rust's order and association.
-use Rattle.std.specs.Prelude.{Bool, not, ◌&&◌, cond, List, [], ◌∷◌, Float}
+use Rattle.std.specs.Prelude.{Bool, not, ◌&&◌, cond, List, [], ◌∷◌, Float, Result, Ok, Err}
 use Rattle.std.specs.Float.Ieee.{neg, le}
 use Rattle.number.specs.Binary64.{◌⊕◌, ◌⊖◌, ◌⊗◌, zero, epsilon64, recip}
 use Rattle.number.specs.Parts.{is_finite, abs}
-use Rattle.number.specs.Vectors.{◌!◌, zeros}
+use Rattle.number.specs.Vectors.{◌!◌}
 use Rattle.extrema.specs.Extrema.{largest}
-use Rattle.refusal.specs.Rows as Rows
-use Rattle.refusal.specs.Refused.{of, none}
+use Rattle.refusal.specs.declared.Refusal.{Refusal}
+use Rattle.refusal.specs.declared.Refusal.TheVariants.{LoneProjection}
 use Rattle.projection.specs.declared.PinholeCamera.{PinholeCamera}
 use Rattle.projection.specs.declared.Projected.{Projected}
 
@@ -32,7 +32,6 @@ linearized camera observation point =
           ∷ camera.fy ⊗ inverse_depth
           ∷ neg camera.fy ⊗ point ! 1 ⊗ inverse_depth_squared
           ∷ [];
-      refusal = none;
     }
 
 unfoldable pub all_finite : Projected → Bool
@@ -42,15 +41,8 @@ all_finite p =
     && is_finite (p.jacobian ! 4)
     && is_finite (p.jacobian ! 5)
 
--- row 9, with view 0 and index 0; every number is +0
-unfoldable pub not_projectable : Projected
-not_projectable = record {
-  residual = zeros 2;
-  jacobian = zeros 6;
-  refusal = of Rows.projection;
-}
-
-unfoldable pub pixel_projection : PinholeCamera → List Float → List Float → Projected
+-- row 9, with view 0 and index 0
+unfoldable pub pixel_projection : PinholeCamera → List Float → List Float → Result Projected Refusal
 pixel_projection camera observation point =
     let p = linearized camera observation point in
-    cond (in_front point) (cond (all_finite p) p not_projectable) not_projectable
+    cond (in_front point) (cond (all_finite p) (Ok p) (Err LoneProjection)) (Err LoneProjection)

@@ -8,7 +8,7 @@
 ghost use Rattle.std.specs.Prelude.{◌≡◌};
 ghost use Rattle.projection.specs.Projection as Projection;
 
-use refusal::Row;
+use refusal::Refusal;
 
 #[derive(Clone, Copy)]
 pub struct PinholeCamera {
@@ -19,30 +19,33 @@ pub struct PinholeCamera {
     pub skew: f64,
 }
 
-// The residual and its derivative by the point in the camera's frame, two rows of three. Beside a
-// refusal every number is +0.
+// The residual and its derivative by the point in the camera's frame, two rows of three
 #[derive(Clone, Copy)]
 pub struct Projected {
     pub residual: [f64; 2],
     pub jacobian: [f64; 6],
-    pub refusal: Row,
 }
 
-// The projection of a point in the camera's frame, less what was observed.
-pub fn pixel_projection(camera: PinholeCamera, observation: [f64; 2], point: [f64; 3]) -> Projected
+// The projection of a point in the camera's frame, less what was observed; row 9 where there is none.
+#[tactic(auto, unfolding(crate::specs::Projection::pixel_projection))]
+pub fn pixel_projection(
+    camera: PinholeCamera,
+    observation: [f64; 2],
+    point: [f64; 3],
+) -> Result<Projected, Refusal>
     ensures { result ≡ Projection.pixel_projection camera observation point }
 {
-    if !in_front(point) {
-        return not_projectable();
+    if in_front(point) {
+        let projected = linearized(camera, observation, point);
+        if all_finite(projected) {
+            return Ok(projected);
+        }
     }
-    let projected = linearized(camera, observation, point);
-    if !all_finite(projected) {
-        return not_projectable();
-    }
-    projected
+    Err(Refusal::LoneProjection)
 }
 
 // Whether the coordinates are finite and the depth is above 64ε of the largest absolute value of them.
+#[tactic(auto, unfolding(crate::specs::Projection::in_front))]
 fn in_front(point: [f64; 3]) -> bool
     ensures { result ≡ Projection.in_front point }
 {
@@ -56,6 +59,7 @@ fn in_front(point: [f64; 3]) -> bool
     finite & !(point[2] <= number::EPSILON64 * scale)
 }
 
+#[tactic(auto, unfolding(crate::specs::Projection::linearized))]
 fn linearized(camera: PinholeCamera, observation: [f64; 2], point: [f64; 3]) -> Projected
     ensures { result ≡ Projection.linearized camera observation point }
 {
@@ -75,10 +79,10 @@ fn linearized(camera: PinholeCamera, observation: [f64; 2], point: [f64; 3]) -> 
             camera.fy * inverse_depth,
             -camera.fy * point[1] * inverse_depth_squared,
         ],
-        refusal: Row::none(),
     }
 }
 
+#[tactic(auto, unfolding(crate::specs::Projection::all_finite))]
 fn all_finite(projected: Projected) -> bool
     ensures { result ≡ Projection.all_finite projected }
 {
@@ -92,14 +96,4 @@ fn all_finite(projected: Projected) -> bool
         & number::is_finite(j[3])
         & number::is_finite(j[4])
         & number::is_finite(j[5])
-}
-
-fn not_projectable() -> Projected
-    ensures { result ≡ Projection.not_projectable }
-{
-    Projected {
-        residual: [0.0; 2],
-        jacobian: [0.0; 6],
-        refusal: Row::of(refusal::PROJECTION),
-    }
 }

@@ -1,17 +1,15 @@
 -- A new system, and what is asked of one once all blocks are taken in: `new`, `finish_damping`, `is_valid`, `scaled_gradient_inf_norm` and `predicted_reduction` of schur.rs.
-use Rattle.std.specs.Prelude.{Bool, true, ◌&&◌, cond, List, Float}
+use Rattle.std.specs.Prelude.{Bool, true, ◌&&◌, cond, List, Float, Result, Ok, Err}
 use Rattle.extrema.specs.Extrema.{max}
 use Rattle.number.specs.Binary64.{◌⊕◌, ◌⊖◌, ◌⊗◌, zero, half, one}
 use Rattle.number.specs.Vectors.{all_finite, zeros}
-use Rattle.refusal.specs.Rows as Rows
-use Rattle.refusal.specs.Refused.{of, none}
+use Rattle.refusal.specs.declared.Refusal.{Refusal}
+use Rattle.refusal.specs.declared.Refusal.TheVariants.{Damping}
 use Rattle.point_damping.specs.Damping.{good_damping}
 use Rattle.gradient_norm.specs.GradientNorm.{scaled_gradient_inf_norm}
 use Rattle.pose_damping.specs.PoseDamping.{damped_hessian, pose_damping_norm}
 use Rattle.pose_model.specs.PoseModel.{dot5, quadratic}
 use Rattle.reduced_system.specs.declared.ReducedSystem.{ReducedSystem}
-use Rattle.reduced_system.specs.declared.Added.{Added}
-use Rattle.reduced_system.specs.declared.Predicted.{Predicted}
 
 unfoldable pub new_system : ReducedSystem
 new_system = record {
@@ -45,11 +43,9 @@ with_hessian s h = record {
   block_count = s.block_count;
 }
 
--- tests row 3; refused, it hands the system back unchanged
-unfoldable pub finish_damping : ReducedSystem → Float → Added
-finish_damping s damping =
-    cond (good_damping damping) (record { system = with_hessian s (damped_hessian s.hessian s.pose_diagonal damping); refusal = none })
-    (record { system = s; refusal = of Rows.damping })
+-- tests row 3
+unfoldable pub finish_damping : ReducedSystem → Float → Result ReducedSystem Refusal
+finish_damping s damping = cond (good_damping damping) (Ok (with_hessian s (damped_hessian s.hessian s.pose_diagonal damping))) (Err Damping)
 
 unfoldable pub is_valid : ReducedSystem → Bool
 is_valid s = s.valid && all_finite s.gradient && all_finite s.hessian
@@ -62,8 +58,6 @@ unfoldable pub reduction_of : ReducedSystem → List Float → Float → Float �
 reduction_of s step damping point_damping_norm =
     s.point_model_reduction ⊖ dot5 s.gradient step ⊖ half ⊗ quadratic s.hessian step ⊕ half ⊗ damping ⊗ (pose_damping_norm s.pose_diagonal step ⊕ point_damping_norm)
 
--- tests row 3; refused, the number is +0
-unfoldable pub predicted_reduction : ReducedSystem → List Float → Float → Float → Predicted
-predicted_reduction s step damping point_damping_norm =
-    cond (good_damping damping) (record { reduction = reduction_of s step damping point_damping_norm; refusal = none })
-    (record { reduction = zero; refusal = of Rows.damping })
+-- tests row 3
+unfoldable pub predicted_reduction : ReducedSystem → List Float → Float → Float → Result Float Refusal
+predicted_reduction s step damping point_damping_norm = cond (good_damping damping) (Ok (reduction_of s step damping point_damping_norm)) (Err Damping)

@@ -8,7 +8,7 @@
 ghost use Rattle.std.specs.Prelude.{◌≡◌};
 ghost use Rattle.reduced_system.specs.Model as Model;
 
-use refusal::Row;
+use refusal::Refusal;
 
 #[derive(Clone, Copy)]
 pub struct ReducedSystem {
@@ -26,21 +26,8 @@ pub struct ReducedSystem {
     pub block_count: u16,
 }
 
-// A system after a call of `add` or `finish_damping`, with that call's refusal
-#[derive(Clone, Copy)]
-pub struct Added {
-    pub system: ReducedSystem,
-    pub refusal: Row,
-}
-
-// What a step is predicted to gain; beside a refusal +0
-#[derive(Clone, Copy)]
-pub struct Predicted {
-    pub reduction: f64,
-    pub refusal: Row,
-}
-
 impl ReducedSystem {
+    #[tactic(auto, unfolding(crate::specs::Model::new_system))]
     pub fn new() -> Self
         ensures { result ≡ Model.new_system }
     {
@@ -60,25 +47,21 @@ impl ReducedSystem {
         }
     }
 
-    // Adds the damping to the pose's diagonal. Tests row 3; refused, it hands the system back unchanged.
-    pub fn finish_damping(self, damping: f64) -> Added
+    // Adds the damping to the pose's diagonal. Tests row 3.
+    #[tactic(auto, unfolding(crate::specs::Model::finish_damping))]
+    pub fn finish_damping(self, damping: f64) -> Result<Self, Refusal>
         ensures { result ≡ Model.finish_damping self damping }
     {
         if !point_damping::good_damping(damping) {
-            return Added {
-                system: self,
-                refusal: Row::of(refusal::DAMPING),
-            };
+            return Err(Refusal::Damping);
         }
         let h = self.hessian;
         let d = self.pose_diagonal;
-        Added {
-            system: self.with_hessian(pose_damping::damped_hessian(h, d, damping)),
-            refusal: Row::none(),
-        }
+        Ok(self.with_hessian(pose_damping::damped_hessian(h, d, damping)))
     }
 
     // Whether every block taken in factored, and the equations are finite
+    #[tactic(auto, unfolding(crate::specs::Model::is_valid))]
     pub fn is_valid(self) -> bool
         ensures { result ≡ Model.is_valid self }
     {
@@ -88,6 +71,7 @@ impl ReducedSystem {
     }
 
     // The largest scaled gradient entry of all points and of the pose
+    #[tactic(auto, unfolding(crate::specs::Model::gradient_inf_norm))]
     pub fn scaled_gradient_inf_norm(self) -> f64
         ensures { result ≡ Model.gradient_inf_norm self }
     {
@@ -100,26 +84,23 @@ impl ReducedSystem {
     }
 
     // What a step of the pose is predicted to gain. Tests row 3.
+    #[tactic(auto, unfolding(crate::specs::Model::predicted_reduction))]
     pub fn predicted_reduction(
         self,
         step: [f64; 5],
         damping: f64,
         point_damping_norm: f64,
-    ) -> Predicted
+    ) -> Result<f64, Refusal>
         ensures { result ≡ Model.predicted_reduction self step damping point_damping_norm }
     {
-        if !point_damping::good_damping(damping) {
-            return Predicted {
-                reduction: 0.0,
-                refusal: Row::of(refusal::DAMPING),
-            };
-        }
-        Predicted {
-            reduction: self.reduction_of(step, damping, point_damping_norm),
-            refusal: Row::none(),
+        if point_damping::good_damping(damping) {
+            Ok(self.reduction_of(step, damping, point_damping_norm))
+        } else {
+            Err(Refusal::Damping)
         }
     }
 
+    #[tactic(auto, unfolding(crate::specs::Model::reduction_of))]
     fn reduction_of(self, step: [f64; 5], damping: f64, point_damping_norm: f64) -> f64
         ensures { result ≡ Model.reduction_of self step damping point_damping_norm }
     {
@@ -133,6 +114,7 @@ impl ReducedSystem {
             + 0.5 * damping * (pose_damping::pose_damping_norm(diagonal, step) + point_damping_norm)
     }
 
+    #[tactic(auto, unfolding(crate::specs::Model::with_hessian))]
     fn with_hessian(mut self, hessian: [f64; 25]) -> Self
         ensures { result ≡ Model.with_hessian self hessian }
     {

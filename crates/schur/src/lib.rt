@@ -9,41 +9,34 @@ ghost use Rattle.list_of_adds.specs.System as System;
 
 use block_elimination::Change;
 use linearization::LocalLinearization;
-use reduced_system::{Added, ReducedSystem};
-use refusal::Row;
+use reduced_system::ReducedSystem;
+use refusal::Refusal;
 
 // The most blocks that a system takes in
 const MAX_BLOCKS: u16 = 65535;
 
-// Takes a block in. Tests rows 3, 12, 13; refused, it hands the system back unchanged.
-pub fn add(system: ReducedSystem, local: LocalLinearization, damping: f64) -> Added
+// Takes a block in. Tests rows 3, 12, 13.
+#[tactic(auto, unfolding(list_of_adds::specs::System::add))]
+pub fn add(
+    system: ReducedSystem,
+    local: LocalLinearization,
+    damping: f64,
+) -> Result<ReducedSystem, Refusal>
     ensures { result ≡ System.add system local damping }
 {
     if !point_damping::good_damping(damping) {
-        return Added {
-            system,
-            refusal: Row::of(refusal::DAMPING),
-        };
+        return Err(Refusal::Damping);
     }
     if !(system.weak_point_count <= system.block_count) {
-        return Added {
-            system,
-            refusal: Row::of(refusal::WEAK_COUNT),
-        };
+        return Err(Refusal::WeakCount);
     }
     if !(system.block_count < MAX_BLOCKS) {
-        return Added {
-            system,
-            refusal: Row::of(refusal::FULL),
-        };
+        return Err(Refusal::Full);
     }
-    let next = taken(system, local, damping);
-    Added {
-        system: next,
-        refusal: Row::none(),
-    }
+    Ok(taken(system, local, damping))
 }
 
+#[tactic(auto, unfolding(list_of_adds::specs::System::taken))]
 fn taken(system: ReducedSystem, local: LocalLinearization, damping: f64) -> ReducedSystem
     requires { System.Free system }
     ensures { result ≡ System.taken system local damping }
@@ -54,6 +47,7 @@ fn taken(system: ReducedSystem, local: LocalLinearization, damping: f64) -> Redu
 }
 
 // Takes in what every block brings, beside what the elimination of its point changes.
+#[tactic(auto, unfolding(list_of_adds::specs::System::taken_with))]
 fn taken_with(
     system: ReducedSystem,
     local: LocalLinearization,

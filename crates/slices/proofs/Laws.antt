@@ -1,14 +1,12 @@
 -- Numbers read from lent slices, and copied to them. Assumes nothing.
 use mathlib.Core.Path.{◌≡◌, refl, sym, ap, ap₂, ◌∙◌}
 use mathlib.Core.List.{List, [], ◌∷◌, ◌++◌, append-nil}
-use Prim.Native.Nat.{ℕ, zero, suc, ◌+◌, ◌≤◌, ◌<◌}
+use Prim.Native.Nat.{ℕ, zero, suc, ◌+◌, ◌≤◌}
 use native.Mathlib.Nat.{zero-add, add_assoc}
-use native.Mathlib.Numerals.{add-one}
 use native.Mathlib.Omega.{arith}
-use borrow.Author.Tests.{lt-leb}
 use lib.Dec.{leb, le→leb}
-use lib.ListN.{length, drop, set}
-use lib.Seq.{paste, paste-suc, take-length, drop-length, get_or-append-add}
+use lib.ListN.{length, drop}
+use lib.Seq.{paste, take-length, drop-length, get_or-append-add}
 use lib.Ieee.{Float, nan}
 use lib.Ieee.Bits.{is_true}
 use Rattle.number.specs.Vectors.{◌!◌, tabulate}
@@ -51,19 +49,6 @@ whole x n r e h = h ∙ part_from x x [] 0 n (from_start x (x ++ []) (sym (appen
 pub put_fits : (v : List Float) (at : ℕ) (o : List Float) → at + length v ≤ length o → put v at o ≡ paste o at v (length v)
 unfolding put
 put_fits v at o h = rw (is_true (leb (at + length v) (length o)) (le→leb (at + length v) (length o) h)) refl
-
--- all values are copied
-pub put_copied : (v : List Float) (at : ℕ) (o y : List Float) (i : ℕ) → y ≡ paste o at v i → at + length v ≤ length o → i ≡ length v → y ≡ put v at o
-put_copied v at o y i e h k = e ∙ ap (λ (m : ℕ). paste o at v m) k ∙ sym (put_fits v at o h)
-
-pub copy_next : (v : List Float) (at : ℕ) (o y : List Float) (i : ℕ) → y ≡ paste o at v i → at + length v ≤ length o → i < length v → set y (at + i) (v ! i) ≡ paste o at v (i + 1)
-copy_next v at o y i e h k =
-    ap (λ (t : List Float). set t (at + i) (v ! i)) e ∙ paste-suc o at v i nan (omega arith) k ∙ ap (λ (m : ℕ). paste o at v m) (sym (add-one i))
-
--- values that do not fit
-pub put_not : (v : List Float) (at : ℕ) (o : List Float) → length o < at + length v → o ≡ put v at o
-unfolding put
-put_not v at o h = rw (lt-leb (at + length v) (length o) h) refl
 
 -- as many values as there is room for
 pub put_all : (v o : List Float) → length v ≡ length o → put v 0 o ≡ v

@@ -1,12 +1,10 @@
--- What a whole step gives, or gives beside a refusal: document 01, "One whole step".
+-- What a whole step gives: document 01, "One whole step".
 use Rattle.std.specs.Prelude.{ℕ, List, pos, Float}
+use Rattle.std.specs.Result.{result_unwrap_or}
 use Rattle.std.specs.Float.{binary64}
 use Rattle.std.specs.Float.Ieee.{of_int}
-use Rattle.number.specs.Binary64.{◌⊘◌, zero as zero·}
-use Rattle.number.specs.Vectors.{tabulate}
+use Rattle.number.specs.Binary64.{◌⊘◌, zero}
 use Rattle.root.specs.Root.{sqrt}
-use Rattle.refusal.specs.Refused.{none}
-use Rattle.refusal.specs.declared.Row.{Row}
 use Rattle.reduced_system.specs.Model.{gradient_inf_norm, predicted_reduction}
 use Rattle.reduced_system.specs.declared.ReducedSystem.{ReducedSystem}
 use Rattle.step_result.specs.declared.StepResult.{StepResult}
@@ -25,21 +23,5 @@ finished system s damping n squared damping_norm = record {
   minimum_point_rcond = system.minimum_point_rcond;
   point_step_rms = rms squared n;
   point_damping_norm = damping_norm;
-  predicted_reduction = (predicted_reduction system s damping damping_norm).reduction;
-  refusal = none;
-}
-
--- every number beside a refusal is +0
-unfoldable pub not_stepped : Row → StepResult
-not_stepped r = record {
-  pose_step = tabulate 5 (λ i. zero·);
-  cost = zero·;
-  squared_residual = zero·;
-  gradient_norm = zero·;
-  weak_point_count = 0;
-  minimum_point_rcond = zero·;
-  point_step_rms = zero·;
-  point_damping_norm = zero·;
-  predicted_reduction = zero·;
-  refusal = r;
+  predicted_reduction = result_unwrap_or (predicted_reduction system s damping damping_norm) zero;
 }

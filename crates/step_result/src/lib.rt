@@ -8,9 +8,7 @@ ghost use Rattle.std.specs.Prelude.{◌≡◌};
 ghost use Rattle.step_result.specs.Results as Results;
 
 use reduced_system::ReducedSystem;
-use refusal::Row;
 
-// Beside a refusal every number is +0.
 #[derive(Clone, Copy)]
 pub struct StepResult {
     pub pose_step: [f64; 5],
@@ -22,11 +20,12 @@ pub struct StepResult {
     pub point_step_rms: f64,
     pub point_damping_norm: f64,
     pub predicted_reduction: f64,
-    pub refusal: Row,
 }
 
 impl StepResult {
-    // Of a system, its limited step, and the squared lengths and damping norms of n point steps, summed
+    // Of a system, its limited step, and the squared lengths and damping norms of n point steps, summed.
+    // A whole step tests row 3 first; at a damping that row 3 refuses the predicted reduction is +0.
+    #[tactic(auto, unfolding(crate::specs::Results::finished))]
     pub fn finished(
         system: ReducedSystem,
         pose_step: [f64; 5],
@@ -47,25 +46,7 @@ impl StepResult {
             minimum_point_rcond: system.minimum_point_rcond,
             point_step_rms: root::sqrt(squared / n as f64),
             point_damping_norm: damping_norm,
-            predicted_reduction: predicted.reduction,
-            refusal: Row::none(),
-        }
-    }
-
-    pub fn not_stepped(refusal: Row) -> Self
-        ensures { result ≡ Results.not_stepped refusal }
-    {
-        Self {
-            pose_step: [0.0; 5],
-            cost: 0.0,
-            squared_residual: 0.0,
-            gradient_norm: 0.0,
-            weak_point_count: 0,
-            minimum_point_rcond: 0.0,
-            point_step_rms: 0.0,
-            point_damping_norm: 0.0,
-            predicted_reduction: 0.0,
-            refusal,
+            predicted_reduction: predicted.unwrap_or(0.0),
         }
     }
 }

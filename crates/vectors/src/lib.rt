@@ -6,24 +6,20 @@ ghost use Rattle.number.specs.Vectors as Vectors;
 ghost use Rattle.number.specs.Vectors.{◌!◌};
 
 // The entry at i; beyond the end a NaN, as in the definitions
+#[tactic(auto, using(crate::proofs::Finite::nan_of_pattern))]
 pub fn entry(values: &[f64], i: usize) -> f64
     ensures { result ≡ values.now ! i }
 {
-    if i < values.len() {
-        values[i]
-    } else {
-        0.0 / 0.0
+    match values.get(i) {
+        Some(x) => *x,
+        None => f64::NAN,
     }
 }
 
 // Whether every entry is finite
+#[tactic(auto, using(crate::proofs::Finite::all_is_finite))]
 pub fn all_finite(values: &[f64]) -> bool
     ensures { result ≡ Vectors.all_finite values.now }
 {
-    for i in 0..values.len() {
-        if !number::is_finite(values[i]) {
-            return false;
-        }
-    }
-    true
+    values.iter().all(|x| number::is_finite(*x))
 }

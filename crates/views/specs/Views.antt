@@ -1,17 +1,18 @@
 -- The two views of a point in `linearize_point` of schur.rs: row 4, then row 9 with view 1 or 2, then the weighted rows of each view.
-use Rattle.std.specs.Prelude.{ℕ, Bool, not, ◌&&◌, cond, List, Float}
+use Rattle.std.specs.Prelude.{ℕ, Bool, not, ◌&&◌, cond, List, Float, Result, Ok, Err}
 use Rattle.std.specs.Float.Ieee.{le}
 use Rattle.number.specs.Binary64.{◌⊗◌, zero}
 use Rattle.number.specs.Parts.{is_finite}
-use Rattle.number.specs.Vectors.{◌!◌, tabulate, zeros}
-use Rattle.refusal.specs.Rows as Rows
-use Rattle.refusal.specs.Refused.{at, of, none, is_none}
-use Rattle.refusal.specs.declared.Row.{Row}
+use Rattle.number.specs.Vectors.{◌!◌, tabulate}
+use Rattle.refusal.specs.declared.View.{View}
+use Rattle.refusal.specs.declared.View.TheVariants.{First, Second}
+use Rattle.refusal.specs.declared.Refusal.{Refusal}
+use Rattle.refusal.specs.declared.Refusal.TheVariants.{InverseDeviation, Projection}
 use Rattle.projection.specs.Pose.{rotate, camera_point}
 use Rattle.projection.specs.Projection.{pixel_projection}
-use Rattle.projection.specs.declared.PinholeCamera.{PinholeCamera}
 use Rattle.projection.specs.declared.Projected.{Projected}
 use Rattle.views.specs.declared.Pose.{Pose}
+use Rattle.views.specs.declared.Rig.{Rig}
 use Rattle.views.specs.declared.Correspondence.{Correspondence}
 use Rattle.views.specs.declared.View1.{View1}
 use Rattle.views.specs.declared.View2.{View2}
@@ -51,32 +52,26 @@ second_rows second rotated pose weight =
     (point_jacobian second.jacobian pose.rotation pose.baseline)
     weight
 
--- every number beside a refusal is +0
-unfoldable pub not_seen : Row → LinearizedViews
-not_seen r = record {
-  first = record { residual = zeros 2; pose = zero; point = zeros 6 };
-  second = record { residual = zeros 2; pose = zeros 10; point = zeros 6 };
-  residual1 = zeros 2;
-  residual2 = zeros 2;
-  refusal = r;
-}
-
 unfoldable pub weighted_views : Projected → Projected → List Float → Pose → Float → LinearizedViews
 weighted_views first second rotated pose inverse_deviation = record {
   first = first_rows first pose (row_weight first.residual inverse_deviation);
   second = second_rows second rotated pose (row_weight second.residual inverse_deviation);
   residual1 = first.residual;
   residual2 = second.residual;
-  refusal = none;
 }
 
-unfoldable pub linearize_views : PinholeCamera → PinholeCamera → Pose → Correspondence → LinearizedViews
-linearize_views camera1 camera2 pose correspondence =
+-- what follows a projection into a view, or row 9 with that view
+abbrev pub seen : View → Result Projected Refusal → (Projected → Result LinearizedViews Refusal) → Result LinearizedViews Refusal
+seen view (Ok p) next = next p
+seen view (Err _) next = Err (Projection view 0)
+
+unfoldable pub linearize_views : Rig → Correspondence → Result LinearizedViews Refusal
+linearize_views rig correspondence =
+    let pose = rig.pose in
     let rotated = rotate pose.rotation correspondence.point in
-    let first = pixel_projection camera1 correspondence.view1 correspondence.point in
-    let second = pixel_projection camera2 correspondence.view2 (camera_point rotated pose.translation) in
+    let moved = camera_point rotated pose.translation in
     cond (good_deviation correspondence.inverse_deviation)
-    (cond (is_none first.refusal)
-    (cond (is_none second.refusal) (weighted_views first second rotated pose correspondence.inverse_deviation) (not_seen (at Rows.projection 2 0)))
-    (not_seen (at Rows.projection 1 0)))
-    (not_seen (of Rows.inverse_deviation))
+    (seen First (pixel_projection rig.camera1 correspondence.view1 correspondence.point)
+    (λ first. seen Second (pixel_projection rig.camera2 correspondence.view2 moved)
+    (λ second. Ok (weighted_views first second rotated pose correspondence.inverse_deviation))))
+    (Err (InverseDeviation 0))

@@ -6,11 +6,11 @@
 // `linearize_point` of kernel/two_view/schur.rs.
 #![tactic(auto)]
 
-ghost use Rattle.std.specs.Prelude.{◌≡◌, length};
+ghost use Rattle.std.specs.Prelude.{◌≡◌};
 ghost use Rattle.views.specs.Views as Views;
 
 use projection::{PinholeCamera, Projected};
-use refusal::Row;
+use refusal::{Refusal, View};
 
 // How the second camera sits: the rotation by rows, the translation, two vectors that span the
 // translation's tangent plane, and the baseline
@@ -20,6 +20,14 @@ pub struct Pose {
     pub translation: [f64; 3],
     pub basis: [f64; 6],
     pub baseline: f64,
+}
+
+// The two cameras, and how the second one sits
+#[derive(Clone, Copy)]
+pub struct Rig {
+    pub camera1: PinholeCamera,
+    pub camera2: PinholeCamera,
+    pub pose: Pose,
 }
 
 // A point, seen by both cameras, with its inverse standard deviation
@@ -46,80 +54,61 @@ pub struct View2 {
     pub point: [f64; 6],
 }
 
-// Both views, with their residuals before any weight; beside a refusal every number is +0.
+// Both views, with their residuals before any weight
 #[derive(Clone, Copy)]
 pub struct LinearizedViews {
     pub first: View1,
     pub second: View2,
     pub residual1: [f64; 2],
     pub residual2: [f64; 2],
-    pub refusal: Row,
 }
 
 // Tests row 4, then row 9 with view 1 or 2.
-pub fn linearize_views(
-    camera1: PinholeCamera,
-    camera2: PinholeCamera,
-    pose: Pose,
-    correspondence: Correspondence,
-) -> LinearizedViews
-    ensures { result ≡ Views.linearize_views camera1 camera2 pose correspondence }
+#[tactic(auto, unfolding(crate::specs::Views::linearize_views))]
+pub fn linearize_views(rig: Rig, correspondence: Correspondence) -> Result<LinearizedViews, Refusal>
+    ensures { result ≡ Views.linearize_views rig correspondence }
 {
-    let inverse_deviation = correspondence.inverse_deviation;
-    if !good_deviation(inverse_deviation) {
-        return not_seen(Row::of(refusal::INVERSE_DEVIATION));
-    }
-    let point = correspondence.point;
-    let view1 = correspondence.view1;
-    let first = projection::pixel_projection(camera1, view1, point);
-    let refusal1 = first.refusal;
-    if !refusal1.is_none() {
-        return not_seen(Row::at(refusal::PROJECTION, 1, 0));
-    }
-    let rotation = pose.rotation;
-    let translation = pose.translation;
-    let rotated = camera_frame::rotate(rotation, point);
-    let view2 = correspondence.view2;
-    let second = projection::pixel_projection(
+    let Rig {
+        camera1,
         camera2,
+        pose,
+    } = rig;
+    let Correspondence {
+        point,
+        view1,
         view2,
-        camera_frame::camera_point(rotated, translation),
-    );
-    let refusal2 = second.refusal;
-    if !refusal2.is_none() {
-        return not_seen(Row::at(refusal::PROJECTION, 2, 0));
+        inverse_deviation,
+    } = correspondence;
+    if !good_deviation(inverse_deviation) {
+        return Err(Refusal::InverseDeviation { index: 0 });
     }
-    weighted_views(first, second, rotated, pose, inverse_deviation)
+    let Ok(first) = projection::pixel_projection(camera1, view1, point) else {
+        return Err(Refusal::Projection {
+            view: View::First,
+            index: 0,
+        });
+    };
+    let rotated = camera_frame::rotate(pose.rotation, point);
+    let moved = camera_frame::camera_point(rotated, pose.translation);
+    let Ok(second) = projection::pixel_projection(camera2, view2, moved) else {
+        return Err(Refusal::Projection {
+            view: View::Second,
+            index: 0,
+        });
+    };
+    Ok(weighted_views(first, second, rotated, pose, inverse_deviation))
 }
 
 // Row 4 lets an inverse deviation through that is finite and above 0.
+#[tactic(auto, unfolding(crate::specs::Views::good_deviation))]
 pub fn good_deviation(x: f64) -> bool
     ensures { result ≡ Views.good_deviation x }
 {
     number::is_finite(x) & !(x <= 0.0)
 }
 
-fn not_seen(refusal: Row) -> LinearizedViews
-    ensures { result ≡ Views.not_seen refusal }
-{
-    LinearizedViews {
-        first: View1 {
-            residual: [0.0; 2],
-            pose: 0.0,
-            point: [0.0; 6],
-        },
-        second: View2 {
-            residual: [0.0; 2],
-            pose: [0.0; 10],
-            point: [0.0; 6],
-        },
-        residual1: [0.0; 2],
-        residual2: [0.0; 2],
-        refusal,
-    }
-}
-
 // Two projections, the turned point, the pose and the inverse deviation
+#[tactic(auto, unfolding(crate::specs::Views::weighted_views))]
 fn weighted_views(
     first: Projected,
     second: Projected,
@@ -141,10 +130,10 @@ fn weighted_views(
         ),
         residual1,
         residual2,
-        refusal: Row::none(),
     }
 }
 
+#[tactic(auto, unfolding(crate::specs::Views::first_rows))]
 fn first_rows(first: Projected, pose: Pose, weight: f64) -> View1
     ensures { result ≡ Views.first_rows first pose weight }
 {
@@ -153,6 +142,7 @@ fn first_rows(first: Projected, pose: Pose, weight: f64) -> View1
     first_view(residual, jacobian, pose.baseline, weight)
 }
 
+#[tactic(auto, unfolding(crate::specs::Views::second_rows))]
 fn second_rows(second: Projected, rotated: [f64; 3], pose: Pose, weight: f64) -> View2
     ensures { result ≡ Views.second_rows second rotated pose weight }
 {
@@ -168,39 +158,39 @@ fn second_rows(second: Projected, rotated: [f64; 3], pose: Pose, weight: f64) ->
 
 // View 1 sees the point where it is, so the pose moves nothing: weight × 0, which shows where the
 // weight times a residual is infinite.
+#[tactic(auto, unfolding(crate::specs::Views::first_view))]
 fn first_view(residual: [f64; 2], j: [f64; 6], baseline: f64, weight: f64) -> View1
     ensures { result ≡ Views.first_view residual j baseline weight }
 {
-    let mut point = [0.0; 6];
-    for i in 0..6 {
-        point[i] = weight * (j[i] * baseline);
+    let mut point = j;
+    for x in point.iter_mut() {
+        *x = weight * (*x * baseline);
     }
     View1 {
-        residual: [weight * residual[0], weight * residual[1]],
+        residual: weigh(residual, weight),
         pose: weight * 0.0,
         point,
     }
 }
 
+#[tactic(auto, unfolding(crate::specs::Views::second_view))]
 fn second_view(residual: [f64; 2], by_pose: [f64; 10], by_point: [f64; 6], weight: f64) -> View2
     ensures { result ≡ Views.second_view residual by_pose by_point weight }
 {
-    let mut pose = by_pose;
-    let mut point = by_point;
-    weigh(&mut pose, weight);
-    weigh(&mut point, weight);
     View2 {
-        residual: [weight * residual[0], weight * residual[1]],
-        pose,
-        point,
+        residual: weigh(residual, weight),
+        pose: weigh(by_pose, weight),
+        point: weigh(by_point, weight),
     }
 }
 
 // Each number times the weight
-fn weigh(x: &mut [f64], weight: f64)
-    ensures { x.new ≡ Views.weighted (length x.old) weight x.old }
+fn weigh<const N: usize>(numbers: [f64; N], weight: f64) -> [f64; N]
+    ensures { result ≡ Views.weighted N weight numbers.entry }
 {
-    for i in 0..x.len() {
-        x[i] = weight * x[i];
+    let mut weighted = numbers;
+    for x in weighted.iter_mut() {
+        *x = weight * *x;
     }
+    weighted
 }

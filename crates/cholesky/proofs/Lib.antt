@@ -1,2 +1,0 @@
--- The two answers of `invert`.
-mod Laws

@@ -1,2 +1,0 @@
--- Laws of a finished system.
-pub mod Finished

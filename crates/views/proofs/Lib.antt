@@ -1,2 +1,0 @@
--- Laws of both views.
-mod Laws
