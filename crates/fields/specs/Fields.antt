@@ -1,9 +1,14 @@
 -- A run record's bytes, and where its fields begin.
-use Rattle.std.specs.Prelude.{ℕ, ◌+◌, ◌*◌, ◌-◌, ◌/◌, List, length, get_or}
+use Rattle.std.specs.Prelude.{ℕ, ◌+◌, ◌*◌, ◌-◌, ◌/◌, List, map, length, get_or}
+use Rattle.std.specs.List.{range_with_len}
 
 -- the byte at an offset
 abbrev pub byte : List ℕ → ℕ → ℕ
 byte r i = get_or r i 0
+
+-- so many bytes from an offset on
+abbrev pub bytes : List ℕ → ℕ → ℕ → List ℕ
+bytes r at n = map (λ i. byte r (at + i)) (range_with_len 0 n)
 
 -- where the fields begin: each has three bytes before its payload
 abbrev pub camera1_at : ℕ

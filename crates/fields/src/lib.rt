@@ -1,63 +1,62 @@
 // The bytes of a run record, and where its fields begin: document 01, "Run record and its list".
 #![tactic(auto)]
 
-ghost use Rattle.std.specs.Prelude.{[], ◌∷◌, ◌≡◌, ◌<◌};
-ghost use Rattle.refusal.specs.First as First;
+ghost use Rattle.std.specs.Prelude.{◌≡◌, ◌+◌, ◌<◌, ◌^◌};
 ghost use Rattle.fields.specs.Fields as Fields;
 
-use refusal::Row;
+use std::array;
+
+// A field is a tag, a length in two bytes, and the payload.
+pub const HEAD_SIZE: usize = 3;
+
+// The bytes of the payloads
+pub const CAMERA_SIZE: usize = 40;
+
+pub const POSE_SIZE: usize = 96;
+
+pub const BASIS_SIZE: usize = 56;
+
+pub const DAMPING_SIZE: usize = 8;
+
+pub const POINT_SIZE: usize = 64;
 
 // Where the fields begin
 pub const CAMERA1_AT: usize = 0;
 
-pub const CAMERA2_AT: usize = 43;
+pub const CAMERA2_AT: usize = CAMERA1_AT + HEAD_SIZE + CAMERA_SIZE;
 
-pub const POSE_AT: usize = 86;
+pub const POSE_AT: usize = CAMERA2_AT + HEAD_SIZE + CAMERA_SIZE;
 
-pub const BASIS_AT: usize = 185;
+pub const BASIS_AT: usize = POSE_AT + HEAD_SIZE + POSE_SIZE;
 
-pub const DAMPING_AT: usize = 244;
+pub const DAMPING_AT: usize = BASIS_AT + HEAD_SIZE + BASIS_SIZE;
 
-pub const POINTS_AT: usize = 255;
+pub const POINTS_AT: usize = DAMPING_AT + HEAD_SIZE + DAMPING_SIZE;
 
-// The bytes of a point's field
-pub const POINT_SIZE: usize = 67;
+// From a point's field to the next
+pub const POINT_STRIDE: usize = HEAD_SIZE + POINT_SIZE;
 
 // The byte at an offset; 0 beyond the end
-pub fn byte_at(record: &[u8], at: usize) -> u64
-    ensures { (result ≡ Fields.byte «record».now at) × (result < 256) }
+pub fn byte_at(record: &[u8], at: usize) -> u8
+    ensures { result ≡ Fields.byte «record».now at }
 {
-    if at < record.len() {
-        return record[at] as u64;
-    }
-    0
+    record.get(at).copied().unwrap_or(0)
+}
+
+// The bytes from an offset on; 0 beyond the end
+pub fn bytes_at<const N: usize>(record: &[u8], at: usize) -> [u8; N]
+    requires { at + N < 2 ^ 64 }
+    ensures { result ≡ Fields.bytes «record».now at N }
+{
+    array::from_fn(|i| byte_at(record, at + i))
 }
 
 // How many point fields begin before the end
 pub fn point_fields(record: &[u8]) -> usize
     ensures { result ≡ Fields.point_fields «record».now }
 {
-    if record.len() < POINTS_AT {
-        return 0;
-    }
-    (record.len() - POINTS_AT + (POINT_SIZE - 1)) / POINT_SIZE
-}
-
-// The first refusal of five fields
-pub fn first_of(a: Row, b: Row, c: Row, d: Row, e: Row) -> Row
-    ensures { result ≡ First.first_of (a ∷ b ∷ c ∷ d ∷ e ∷ []) }
-{
-    if !a.is_none() {
-        return a;
-    }
-    if !b.is_none() {
-        return b;
-    }
-    if !c.is_none() {
-        return c;
-    }
-    if !d.is_none() {
-        return d;
-    }
-    e
+    record
+        .len()
+        .saturating_sub(POINTS_AT)
+        .div_ceil(POINT_STRIDE)
 }

@@ -1,29 +1,28 @@
 -- The form of a record: what the tests of its fields say. Assumes nothing.
 use mathlib.Core.Path.{◌≡◌, refl, sym}
-use mathlib.Core.Bool.{Bool, true, false, not, ◌&&◌, true≢false}
+use mathlib.Core.Bool.{Bool, true, false, ◌&&◌, true≢false}
 use mathlib.Core.List.{List}
 use Prim.Native.Nat.{ℕ, zero, suc, ◌+◌, ◌*◌, ◌≤◌}
+use native.Mathlib.Nat.{add-zero}
 use native.Mathlib.Omega.{arith}
-use borrow.Author.Tests.{not-true, not-false, leb-true}
+use borrow.Author.Tests.{leb-true}
 use lib.Dec.{eqb, leb}
 use lib.ListN.{length}
-use Rattle.refusal.specs.Rows as Rows
-use Rattle.refusal.specs.Refused.{of, is_none}
+use Rattle.std.specs.Prelude.{Ok}
+use Rattle.std.specs.Int.{w16, from_le_bytes}
 use Rattle.refusal.specs.First.{unless, first}
-use Rattle.refusal.proofs.Scans.{row_refuses, after_none, held, all_none}
-use Rattle.fields.specs.Fields.{byte, point_at, point_fields, camera1_at, camera2_at, pose_at, basis_at}
-use Rattle.record_form.specs.Form.{max_record, is_whole, field_refused, header_refused, refused, Formed}
+use Rattle.refusal.specs.declared.Refusal.TheVariants.{RecordTooLong}
+use Rattle.refusal.proofs.Scans.{after_ok, held, all_ok}
+use Rattle.fields.specs.Fields.{byte, bytes, point_at, point_fields, camera1_at, camera2_at, pose_at, basis_at}
+use Rattle.record_form.specs.Form.{max_record, is_whole, check_field, check_header, check, Formed}
+
+-- a field's length, read low byte first
+pub size_read : (r : List ℕ) (start : ℕ) → from_le_bytes w16 (bytes r (start + 1) 2) ≡ byte r (start + 1) + 256 * byte r (start + 2)
+size_read r start =
+    let e : start + 1 + 1 ≡ start + 2 = omega arith in
+    rw (add-zero (start + 1), e) (omega arith)
 
 module _ (r : List ℕ) (tag size start : ℕ) where
-  pub too_short : not (leb (start + 3 + size) (length r)) ≡ true → false ≡ is_whole r tag size start
-  unfolding is_whole
-  too_short t = rw (not-true (leb (start + 3 + size) (length r)) t) refl
-
-  pub whole_test : (b low high : ℕ) → low ≡ byte r (start + 1) → high ≡ byte r (start + 2) → b ≡ byte r start → not (leb (start + 3 + size) (length r)) ≡ false
-      → (eqb b tag && eqb (low + 256 * high) size) ≡ is_whole r tag size start
-  unfolding is_whole
-  whole_test b low high e f g t = rw (not-false (leb (start + 3 + size) (length r)) t, e, f, g) refl
-
   whole_fits : is_whole r tag size start ≡ true → start + 3 + size ≤ length r
   unfolding is_whole
   whole_fits e = leb-true (start + 3 + size) (length r) (by (leb (start + 3 + size) (length r)) (eqb (byte r start) tag) (eqb (byte r (start + 1) + 256 * byte r (start + 2)) size) e)
@@ -32,27 +31,27 @@ module _ (r : List ℕ) (tag size start : ℕ) where
       by true y z e = refl
       by false y z e = absurd (true≢false (sym e))
 
-  field_fits : is_none (field_refused r tag size start) ≡ true → start + 3 + size ≤ length r
-  field_fits e = whole_fits (held _ _ (row_refuses Rows.record_form 0 _ refl) e)
+  field_fits : check_field r tag size start ≡ Ok tt → start + 3 + size ≤ length r
+  field_fits e = whole_fits (held _ _ e)
 
 -- what rows 14 and 15 leave
-pub formed : (r : List ℕ) → is_none (refused r) ≡ true → Formed r
-unfolding refused
+pub formed : (r : List ℕ) → check r ≡ Ok tt → Formed r
+unfolding check
 formed r e =
-    let long = after_none (unless (leb (length r) max_record) (of Rows.record_too_long)) _ e in
-    let head = after_none (header_refused r) _ long.1 in
-    let c1 = after_none (field_refused r 1 40 camera1_at) _ head.0 in
-    let c2 = after_none (field_refused r 2 40 camera2_at) _ c1.1 in
-    let p = after_none (field_refused r 3 96 pose_at) _ c2.1 in
-    let b = after_none (field_refused r 4 56 basis_at) _ p.1 in
-    let l : length r ≤ max_record = leb-true (length r) max_record (held (leb (length r) max_record) (of Rows.record_too_long) (row_refuses Rows.record_too_long 0 0 refl) long.0) in
+    let long = after_ok (unless (leb (length r) max_record) RecordTooLong) _ e in
+    let head = after_ok (check_header r) _ long.1 in
+    let c1 = after_ok (check_field r 1 40 camera1_at) _ head.0 in
+    let c2 = after_ok (check_field r 2 40 camera2_at) _ c1.1 in
+    let p = after_ok (check_field r 3 96 pose_at) _ c2.1 in
+    let b = after_ok (check_field r 4 56 basis_at) _ p.1 in
+    let l : length r ≤ max_record = leb-true (length r) max_record (held (leb (length r) max_record) RecordTooLong long.0) in
     let h : 255 ≤ length r = field_fits r 5 8 244 b.1 in
     (by (point_fields r) refl h head.1, l)
   where
-    by : (n : ℕ) → n ≡ point_fields r → 255 ≤ length r → is_none (first (λ i. field_refused r 6 64 (point_at i)) 0 n) ≡ true → length r ≡ point_at n
+    by : (n : ℕ) → n ≡ point_fields r → 255 ≤ length r → first (λ i. check_field r 6 64 (point_at i)) 0 n ≡ Ok tt → length r ≡ point_at n
     by zero q h f = omega (arith, q)
     by (suc n) q h f =
-        let k : 255 + 67 * n + 3 + 64 ≤ length r = field_fits r 6 64 (point_at n) (all_none (λ i. field_refused r 6 64 (point_at i)) (suc n) n (omega arith) f) in
+        let k : 255 + 67 * n + 3 + 64 ≤ length r = field_fits r 6 64 (point_at n) (all_ok (λ i. check_field r 6 64 (point_at i)) (suc n) n (omega arith) f) in
         omega (arith, q)
 
 -- a record of the right form has 512 points at most

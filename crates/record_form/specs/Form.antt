@@ -1,9 +1,7 @@
 -- The form of a run record: fields of one tag byte, two length bytes (low first) and a payload. Tags 1 to 5 are due in order, once each; then tag 6 for each point to the end.
 use Rattle.std.specs.Prelude.{ℕ, ◌+◌, ◌*◌, ◌≤◌, ◌≡◌, Bool, ◌&&◌, List, [], ◌∷◌, eqb, leb, length}
-use Rattle.refusal.specs.Rows as Rows
-use Rattle.refusal.specs.Refused.{at, of}
-use Rattle.refusal.specs.First.{unless, first_of, first}
-use Rattle.refusal.specs.declared.Row.{Row}
+use Rattle.refusal.specs.First.{Checked, unless, first_of, first}
+use Rattle.refusal.specs.declared.Refusal.TheVariants.{RecordTooLong, RecordForm}
 use Rattle.fields.specs.Fields.{byte, camera1_at, camera2_at, pose_at, basis_at, damping_at, point_at, point_fields}
 
 -- the most bytes of a record: 512 points
@@ -14,29 +12,28 @@ max_record = 34559
 unfoldable pub is_whole : List ℕ → ℕ → ℕ → ℕ → Bool
 is_whole r tag size start = leb (start + 3 + size) (length r) && eqb (byte r start) tag && eqb (byte r (start + 1) + 256 * byte r (start + 2)) size
 
--- row 15: the index is the byte where the broken field begins, which is the record's length if it ends there
-abbrev pub field_refused : List ℕ → ℕ → ℕ → ℕ → Row
-field_refused r tag size start = unless (is_whole r tag size start) (at Rows.record_form 0 start)
+-- row 15: the byte where the broken field begins, which is the record's length if it ends there
+abbrev pub check_field : List ℕ → ℕ → ℕ → ℕ → Checked
+check_field r tag size start = unless (is_whole r tag size start) (RecordForm start)
 
 -- row 15 for the five fields before the points
-abbrev pub header_refused : List ℕ → Row
-header_refused r =
+abbrev pub check_header : List ℕ → Checked
+check_header r =
     first_of (
-    field_refused r 1 40 camera1_at
-    ∷ field_refused r 2 40 camera2_at
-    ∷ field_refused r 3 96 pose_at
-    ∷ field_refused r 4 56 basis_at
-    ∷ field_refused r 5 8 damping_at
+    check_field r 1 40 camera1_at
+    ∷ check_field r 2 40 camera2_at
+    ∷ check_field r 3 96 pose_at
+    ∷ check_field r 4 56 basis_at
+    ∷ check_field r 5 8 damping_at
     ∷ [])
 
+-- row 15 for the points' fields
+abbrev pub check_points : List ℕ → Checked
+check_points r = first (λ i. check_field r 6 64 (point_at i)) 0 (point_fields r)
+
 -- rows 14 and 15
-unfoldable pub refused : List ℕ → Row
-refused r =
-    first_of (
-    unless (leb (length r) max_record) (of Rows.record_too_long)
-    ∷ header_refused r
-    ∷ first (λ i. field_refused r 6 64 (point_at i)) 0 (point_fields r)
-    ∷ [])
+unfoldable pub check : List ℕ → Checked
+check r = first_of (unless (leb (length r) max_record) RecordTooLong ∷ check_header r ∷ check_points r ∷ [])
 
 -- what rows 14 and 15 leave: whole point fields to the end, and not too many
 abbrev pub Formed : List ℕ → Type 0

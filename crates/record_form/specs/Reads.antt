@@ -2,6 +2,10 @@
 use Rattle.std.specs.Prelude.{ℕ, ◌+◌}
 use Rattle.record_form.specs.declared.reader.Reader.{Reader}
 
+-- at another place
+abbrev pub at : Reader → ℕ → Reader
+at r i = record { «record» = r.«record»; at = i }
+
 -- behind the field at its place: three bytes and the payload
 abbrev pub past : Reader → ℕ → Reader
-past r size = record { «record» = r.«record»; at = r.at + 3 + size }
+past r size = at r (r.at + 3 + size)

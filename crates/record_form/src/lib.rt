@@ -4,4 +4,4 @@
 mod form;
 mod reader;
 
-pub use form::{MAX_RECORD, refused};
+pub use form::{MAX_RECORD, check};

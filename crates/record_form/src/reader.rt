@@ -1,59 +1,55 @@
-// A reader that holds a record's bytes and its place in them. The functions over it are thin; the last two have plain
-// parameters.
-ghost use Rattle.std.specs.Prelude.{◌≡◌, ◌≤◌};
+// A reader that holds a record's bytes and its place in them.
+ghost use Rattle.std.specs.Prelude.{◌≡◌, ◌≤◌, OnOk, OnErr, length};
+ghost use Rattle.refusal.specs.First as First;
+ghost use Rattle.fields.specs.Fields as Fields;
 ghost use Rattle.record_form.specs.Form as Form;
 ghost use Rattle.record_form.specs.Reads as Reads;
 
 use crate::form;
-use refusal::Row;
+use fields::{BASIS_SIZE, CAMERA_SIZE, DAMPING_SIZE, HEAD_SIZE, POINT_SIZE, POSE_SIZE};
+use refusal::Refusal;
 
-#[derive(Clone, Copy)]
+#[derive(Drop)]
 pub(crate) struct Reader<'a> {
     pub record: &'a [u8],
     pub at: usize,
 }
 
-// Row 15 for the field at the reader's place
-pub(crate) fn next_field<'a>(reader: Reader<'a>, tag: u8, size: usize) -> Row
-    requires { (reader.at ≤ 40000) × (size ≤ 100) }
-    ensures { result ≡ Form.field_refused reader.entry.«record».now tag size reader.entry.at }
-{
-    form::test_field(reader.record, tag, size, reader.at)
-}
-
-// The reader behind that field
-pub(crate) fn past<'a>(reader: Reader<'a>, size: usize) -> Reader<'a>
-    requires { (reader.at ≤ 40000) × (size ≤ 100) }
-    ensures { result ≡ Reads.past reader.entry size }
-{
-    Reader {
-        record: reader.record,
-        at: reader.at + 3 + size,
+impl<'a> Reader<'a> {
+    // Row 15 for the five fields before the points, which begin at the record's beginning
+    pub(crate) fn check_header(&mut self) -> Result<(), Refusal>
+        requires { self.old.at ≡ 0 }
+        ensures checked { result ≡ Form.check_header self.old.«record».now }
+        ensures behind { OnOk result (self.new ≡ Reads.at self.old Fields.points_at) }
+    {
+        self.next_field(1, CAMERA_SIZE)?;
+        self.next_field(2, CAMERA_SIZE)?;
+        self.next_field(3, POSE_SIZE)?;
+        self.next_field(4, BASIS_SIZE)?;
+        self.next_field(5, DAMPING_SIZE)
     }
-}
 
-// Row 15 for the five fields before the points, read one after the other
-pub(crate) fn header_refused(record: &[u8]) -> Row
-    ensures { result ≡ Form.header_refused «record».now }
-{
-    let camera1 = Reader { record, at: 0 };
-    let camera2 = past(camera1, 40);
-    let pose = past(camera2, 40);
-    let basis = past(pose, 96);
-    let damping = past(basis, 56);
-    fields::first_of(
-        next_field(camera1, 1, 40),
-        next_field(camera2, 2, 40),
-        next_field(pose, 3, 96),
-        next_field(basis, 4, 56),
-        next_field(damping, 5, 8),
-    )
-}
+    // Row 15 for each point's field
+    pub(crate) fn check_points(&mut self) -> Result<(), Refusal>
+        requires place { self.old.at ≡ Fields.points_at }
+        requires fits { length self.old.«record».now ≤ Form.max_record }
+        ensures { result ≡ Form.check_points self.old.«record».now }
+    {
+        for _ in 0..fields::point_fields(self.record) {
+            self.next_field(6, POINT_SIZE)?;
+        }
+        Ok(())
+    }
 
-// Row 15 for the field at a place
-pub(crate) fn field_refused(record: &[u8], tag: u8, size: usize, start: usize) -> Row
-    requires { (start ≤ 40000) × (size ≤ 100) }
-    ensures { result ≡ Form.field_refused «record».now tag size start }
-{
-    next_field(Reader { record, at: start }, tag, size)
+    // Row 15 for the field at the reader's place, where the reader stays; behind a whole field it goes on.
+    fn next_field(&mut self, tag: u8, size: usize) -> Result<(), Refusal>
+        requires { (self.old.at ≤ 40000) × (size ≤ 100) }
+        ensures checked { result ≡ Form.check_field self.old.«record».now tag size self.old.at }
+        ensures behind { OnOk result (self.new ≡ Reads.past self.old size) }
+        ensures stays { OnErr result (self.new ≡ self.old) }
+    {
+        form::check_field(self.record, tag, size, self.at)?;
+        self.at += HEAD_SIZE + size;
+        Ok(())
+    }
 }

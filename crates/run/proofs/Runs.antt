@@ -1,35 +1,36 @@
 -- What a record holds, from its numbers. Assumes nothing.
-use mathlib.Core.Path.{◌≡◌, refl}
-use mathlib.Core.List.{List, [], ◌∷◌}
-use Prim.Native.Nat.{ℕ, ◌+◌, ◌*◌}
+use Rattle.std.proofs.Common.{◌≡◌, ℕ, zero, suc, ◌+◌, List, map, [], ◌∷◌, refl, sym, ap, ◌∙◌, add-zero, zero-add, arith}
+use Rattle.std.specs.Int.{w64, from_le_bytes}
+use Rattle.std.specs.List.{range_with_len}
 use lib.Ieee.{Float}
-use Rattle.projection.specs.declared.PinholeCamera.{PinholeCamera}
-use Rattle.views.specs.declared.Correspondence.{Correspondence}
-use Rattle.correspondences.specs.declared.Rig.{Rig}
-use Rattle.fields.specs.Fields.{camera1_at, camera2_at, pose_at, basis_at}
-use Rattle.run.specs.Run.{number_at, two_at, three_at, numbers_at, camera_at, rig, correspondence_of}
+use Rattle.number.specs.Vectors.{tabulate}
+use Rattle.fields.specs.Fields.{bytes}
+use Rattle.run.specs.Run.{word, number_at, numbers_at}
 
--- numbers that were read one by one
-module _ (r : List ℕ) (at : ℕ) where
-  pub two_are : (a b : Float) → a ≡ number_at r at → b ≡ number_at r (at + 8) → a ∷ b ∷ [] ≡ two_at r at
-  two_are a b e f = rw (e, f) refl
+-- eight bytes, low byte first
+pub word_read : (r : List ℕ) (at : ℕ) → from_le_bytes w64 (bytes r at 8) ≡ word r at
+unfolding word
+word_read r at =
+    let e : at + 4 + 1 ≡ at + 5 = omega arith in
+    let f : at + 4 + 2 ≡ at + 6 = omega arith in
+    let g : at + 4 + 3 ≡ at + 7 = omega arith in
+    rw (add-zero at, e, f, g) (omega arith)
 
-  pub three_are : (a b c : Float) → a ≡ number_at r at → b ≡ number_at r (at + 8) → c ≡ number_at r (at + 16) → a ∷ b ∷ c ∷ [] ≡ three_at r at
-  three_are a b c e f g = rw (e, f, g) refl
+-- a list of the library's, index by index, as `tabulate` has it
+made_from : (f h : ℕ → Float) (a n : ℕ) → ((i : ℕ) → f i ≡ h (a + i)) → map h (range_with_len a n) ≡ tabulate n f
+made_from f h a zero e = refl
+made_from f h a (suc n) e =
+    let tail = made_from (λ i. f (suc i)) h (a + 1) n (λ i. let k : a + suc i ≡ a + 1 + i = omega arith in e (suc i) ∙ ap h k) in
+    rw (tail, e 0, add-zero a) refl
 
-  pub camera_is : (fx fy cx cy skew : Float) → fx ≡ number_at r (at + 3) → fy ≡ number_at r (at + 11) → cx ≡ number_at r (at + 19) → cy ≡ number_at r (at + 27) → skew ≡ number_at r (at + 35)
-      → ◌≡◌ {A = PinholeCamera} (record { fx = fx; fy = fy; cx = cx; cy = cy; skew = skew }) (camera_at r at)
-  unfolding camera_at
-  camera_is fx fy cx cy skew e f g h i = rw (e, f, g, h, i) refl
+pub made_is : (f : ℕ → Float) (n : ℕ) → map f (range_with_len 0 n) ≡ tabulate n f
+made_is f n = made_from f f 0 n (λ i. ap f (sym (zero-add i)))
 
-pub correspondence_is : (r : List ℕ) (i : ℕ) (point view1 view2 : List Float) (deviation : Float) → point ≡ three_at r (258 + 67 * i) → view1 ≡ two_at r (258 + 67 * i + 24)
-    → view2 ≡ two_at r (258 + 67 * i + 40) → deviation ≡ number_at r (258 + 67 * i + 56)
-    → ◌≡◌ {A = Correspondence} (record { point = point; view1 = view1; view2 = view2; inverse_deviation = deviation }) (correspondence_of r i)
-correspondence_is r i point view1 view2 deviation e f g h = rw (e, f, g, h) refl
-
--- the numbers of fields 1 to 4 are the rig
-pub rig_is : (r : List ℕ) (x y : PinholeCamera) (rotation translation basis : List Float) (baseline : Float) → x ≡ camera_at r camera1_at → y ≡ camera_at r camera2_at
-    → rotation ≡ numbers_at r (pose_at + 3) 9 → translation ≡ three_at r (pose_at + 75) → basis ≡ numbers_at r (basis_at + 3) 6 → baseline ≡ number_at r (basis_at + 51)
-    → ◌≡◌ {A = Rig} (record { camera1 = x; camera2 = y; pose = record { rotation = rotation; translation = translation; basis = basis; baseline = baseline } }) (rig r)
-unfolding rig
-rig_is r x y rotation translation basis baseline e f g h i j = rw (e, f, g, h, i, j) refl
+-- the five numbers of a camera
+pub camera_read : (r : List ℕ) (at : ℕ) → numbers_at r (at + 3) 5 ≡ number_at r (at + 3) ∷ number_at r (at + 11) ∷ number_at r (at + 19) ∷ number_at r (at + 27) ∷ number_at r (at + 35) ∷ []
+camera_read r at =
+    let e : at + 3 + 8 ≡ at + 11 = omega arith in
+    let f : at + 3 + 16 ≡ at + 19 = omega arith in
+    let g : at + 3 + 24 ≡ at + 27 = omega arith in
+    let h : at + 3 + 32 ≡ at + 35 = omega arith in
+    rw (add-zero (at + 3), e, f, g, h) refl

@@ -1,5 +1,5 @@
 -- What a record of the right form holds: binary64 payloads, low byte first.
-use Rattle.std.specs.Prelude.{ℕ, ◌+◌, ◌*◌, ◌/◌, ◌%◌, List, [], ◌∷◌, ◌++◌, Float}
+use Rattle.std.specs.Prelude.{ℕ, ◌+◌, ◌*◌, ◌/◌, ◌%◌, List, Float}
 use Rattle.std.specs.Float.{binary64}
 use Rattle.std.specs.Float.Ieee.{of_bits}
 use Rattle.number.specs.Vectors.{tabulate}
@@ -23,13 +23,6 @@ word r at = half r at + 4294967296 * half r (at + 4)
 unfoldable pub number_at : List ℕ → ℕ → Float
 number_at r at = of_bits binary64 (word r at)
 
--- two or three numbers, one after the other
-abbrev pub two_at : List ℕ → ℕ → List Float
-two_at r at = number_at r at ∷ number_at r (at + 8) ∷ []
-
-abbrev pub three_at : List ℕ → ℕ → List Float
-three_at r at = number_at r at ∷ number_at r (at + 8) ∷ number_at r (at + 16) ∷ []
-
 -- n numbers, one after the other
 abbrev pub numbers_at : List ℕ → ℕ → ℕ → List Float
 numbers_at r at n = tabulate n (λ j. number_at r (at + 8 * j))
@@ -49,9 +42,9 @@ rig r = record {
   camera1 = camera_at r camera1_at;
   camera2 = camera_at r camera2_at;
   pose = record {
-    rotation = three_at r (pose_at + 3) ++ three_at r (pose_at + 27) ++ three_at r (pose_at + 51);
-    translation = three_at r (pose_at + 75);
-    basis = three_at r (basis_at + 3) ++ three_at r (basis_at + 27);
+    rotation = numbers_at r (pose_at + 3) 9;
+    translation = numbers_at r (pose_at + 75) 3;
+    basis = numbers_at r (basis_at + 3) 6;
     baseline = number_at r (basis_at + 51);
   };
 }
@@ -72,4 +65,4 @@ run r =
 abbrev pub correspondence_of : List ℕ → ℕ → Correspondence
 correspondence_of r i =
     let at = points_at + 3 + 67 * i in
-    record { point = three_at r at; view1 = two_at r (at + 24); view2 = two_at r (at + 40); inverse_deviation = number_at r (at + 56) }
+    record { point = numbers_at r at 3; view1 = numbers_at r (at + 24) 2; view2 = numbers_at r (at + 40) 2; inverse_deviation = number_at r (at + 56) }

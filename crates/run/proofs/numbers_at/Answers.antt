@@ -1,21 +1,14 @@
-use mathlib.Core.Path.{◌∙◌, refl}
-use lib.ListN.{length-set}
-use Rattle.number.proofs.Fill.{fill_next, fill_all}
+-- `run::numbers_at` meets its contract. Assumes nothing.
+use Rattle.std.proofs.Common.{◌≡◌, ◌+◌, ◌*◌, ◌∙◌, refl, rules}
+use lib.Ieee.{nan}
+use Rattle.fields.proofs.Made.{made}
 use Rattle.run.specs.Run.{number_at}
-use Prim.Native.Nat.{◌+◌, ◌*◌}
-use native.Mathlib.Omega.{arith}
+use Rattle.run.proofs.Runs.{made_is}
 use Rattle.run.proofs.numbers_at.Goals as goal
 
-pub loop-j-init : goal.loop-j-init
-loop-j-init c = (omega arith, refl, refl, refl)
-
-pub loop-j-preserved : goal.loop-j-preserved
-loop-j-preserved c =
-    let a = c.args in
-    (omega arith, c.loop-j.invariant.1, length-set c.loop-j.out _ _ ∙ c.loop-j.invariant.2, fill_next a.out.now c.loop-j.out (λ k. number_at a.«record».now (a.at + 8 * k)) c.loop-j.j _ c.loop-j.invariant.3 c.number_from.ensures (omega arith))
-
-pub shape_of-out : goal.shape_of-out
-shape_of-out c = c.loop-j.invariant.2
-
 pub returns : goal.returns
-returns c = fill_all _ _ _ c.loop-j.j _ c.loop-j.invariant.3 (omega arith) refl
+returns g c =
+    let r = c.args.«record».now in
+    let a = c.args.at in
+    made _ (λ f. (f.0.now ≡ r) × (f.1.now ≡ a)) (λ j. number_at r (a + 8 * j)) _ (λ f j y q u s w. search rules) _ nan _ (refl, refl) c.from_fn.ensures.items
+    ∙ made_is (λ j. number_at r (a + 8 * j)) g.row.N

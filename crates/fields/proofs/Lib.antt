@@ -1,0 +1,2 @@
+-- Arrays that a function of the index makes.
+pub mod Made
