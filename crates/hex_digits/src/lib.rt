@@ -4,39 +4,26 @@
 ghost use Rattle.std.specs.Prelude.{◌<◌, ◌≡◌};
 ghost use Rattle.hex_digits.specs.Hex as Hex;
 
+use std::array;
+
 // The lowest digit of n
+#[tactic(auto, unfolding(crate::specs::Hex::digit))]
 fn digit(n: u64) -> u8
     ensures { result ≡ Hex.digit n }
 {
     let d = (n % 16) as u8;
-    if d < 10 { 48 + d } else { 55 + d }
+    if d < 10 { b'0' + d } else { b'A' + (d - 10) }
 }
 
 // The sixteen digits of n, highest first
 pub fn digits(n: u64) -> [u8; 16]
     ensures { result ≡ Hex.digits n }
 {
-    [
-        digit(n / 0x1000_0000_0000_0000),
-        digit(n / 0x100_0000_0000_0000),
-        digit(n / 0x10_0000_0000_0000),
-        digit(n / 0x1_0000_0000_0000),
-        digit(n / 0x1000_0000_0000),
-        digit(n / 0x100_0000_0000),
-        digit(n / 0x10_0000_0000),
-        digit(n / 0x1_0000_0000),
-        digit(n / 0x1000_0000),
-        digit(n / 0x100_0000),
-        digit(n / 0x10_0000),
-        digit(n / 0x1_0000),
-        digit(n / 0x1000),
-        digit(n / 0x100),
-        digit(n / 0x10),
-        digit(n),
-    ]
+    array::from_fn(|i| digit(n >> (60 - 4 * i)))
 }
 
 // What a digit stands for, and 0 for a byte that is none
+#[tactic(auto, unfolding(crate::specs::Hex::value))]
 pub fn value(digit: u8) -> u64
     ensures value { result ≡ Hex.value digit }
     ensures upper_bound { result < 16 }

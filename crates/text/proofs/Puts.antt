@@ -4,30 +4,31 @@ use mathlib.Core.Bool.{Bool, true, false, cond}
 use mathlib.Core.List.{List, [], ◌∷◌, ◌++◌, append_assoc}
 use Prim.Native.Nat.{ℕ, zero, suc, ◌+◌, ◌-◌, ◌≤◌, ◌<◌, min}
 use native.Mathlib.Nat.{add_assoc, add-zero}
-use native.Mathlib.Numerals.{add-one}
+use native.Mathlib.Numerals.{one-add}
 use native.Mathlib.Omega.{arith}
-use borrow.Author.Tests.{eq-eqb, ne_eqb, leb-true, leb-false}
+use borrow.Author.Tests.{leb-true, leb-false}
+use borrow.Rule.Slice.PartMut.{put_mid}
 use lib.Dec.{eqb, leb}
-use lib.ListN.{length, take, drop, set, get_or, length-append, length-take, length-drop}
-use lib.Seq.{take_all, take-nil, take-take, take_at, paste, paste-zero, paste-suc, drop-append-add, drop-drop, length-take-le, drop-cons}
+use lib.ListN.{length, take, drop, length-append, length-take, length-drop}
+use lib.Seq.{take_all, take-nil, take-take, take_at, paste-zero, drop-append-add, drop-drop, length-take-le}
+use Rattle.std.specs.List.{prefix_len}
 use Rattle.text.specs.Text.{without_zeros, pasted, fitting, Put}
 
 -- ---- one text
-
-pub paste_next : (out : List ℕ) (at : ℕ) (t : List ℕ) (i : ℕ) → at + i < length out → i < length t → set (paste out at t i) (at + i) (get_or t i 0) ≡ paste out at t (i + 1)
-paste_next out at t i h k = paste-suc out at t i 0 h k ∙ ap (λ (n : ℕ). paste out at t n) (sym (add-one i))
 
 -- what a call leaves that has written the whole of x
 abbrev Left : ℕ → List ℕ → ℕ → List ℕ → List ℕ → Type 0
 Left at out next after x = (next ≡ at + length x) × (after ≡ pasted out at x)
 
-pub put_of : (t : List ℕ) (at : ℕ) (out : List ℕ) (n : ℕ) (after : List ℕ) → n ≡ min (length out - at) (length t) → after ≡ paste out at t n → Put t at out (at + n) after
+-- as many bytes of t as fit, written where they belong: r is what the part holds now
+pub put_of : (t : List ℕ) (at : ℕ) (out : List ℕ) (n k : ℕ) (r : List ℕ) → n ≡ min (length t) (length out - at) → k ≡ n → r ≡ take n t → Put t at out (at + n) (put_mid at k out r)
 unfolding Put
-put_of t at out n after e p =
+put_of t at out n k r e g h =
     let l = length-take (length out - at) t in
     let m : length (take n t) ≡ n = length-take-le n t (omega arith) in
     let f : take n t ≡ fitting out at t = sym (take-take n (length out - at) t (omega arith)) ∙ take_all n (fitting out at t) (omega arith) in
-    subst (Left at out (at + n) after) f (ap (λ (k : ℕ). at + k) (sym m), p ∙ ap (λ (k : ℕ). take at out ++ take n t ++ drop (at + k) out) (sym m))
+    let p : put_mid at k out r ≡ pasted out at (take n t) = rw (g, h, m) (ap (λ (d : List ℕ). take at out ++ (take n t ++ d)) (drop-drop n at out) ∙ sym (append_assoc (take at out) (take n t) (drop (at + n) out))) in
+    subst (Left at out (at + n) (put_mid at k out r)) f (ap (λ (j : ℕ). at + j) (sym m), p)
 
 pasted_length : (out : List ℕ) (at : ℕ) (t : List ℕ) → length (pasted out at (fitting out at t)) ≡ length out
 pasted_length out at t =
@@ -57,6 +58,13 @@ put_same s t at out next after e p = subst (λ (x : List ℕ). Put x at out next
 pub put_none : (at : ℕ) (out : List ℕ) → Put [] at out at out
 unfolding Put
 put_none at out = subst (Left at out at out) (sym (take-nil (length out - at))) (sym (add-zero at), paste-zero out at [])
+
+pub put_beyond : (t : List ℕ) (at : ℕ) (out : List ℕ) → length out < at → Put t at out at out
+unfolding Put
+put_beyond t at out h =
+    let e : length out - at ≡ 0 = omega arith in
+    let none : [] ≡ fitting out at t = ap (λ (k : ℕ). take k t) (sym e) in
+    subst (Left at out at out) none (sym (add-zero at), paste-zero out at [])
 
 take_append : (n : ℕ) (s t : List ℕ) → take n (s ++ t) ≡ take n s ++ take (n - length s) t
 take_append zero s t = let e : 0 ≡ 0 - length s = omega arith in ap (λ (k : ℕ). take k t) e
@@ -117,22 +125,16 @@ put_then s t u at out middle between next after p q = put_same _ _ at out next a
 
 -- ---- without the zeros before a number
 
-module _ (l : List ℕ) (i : ℕ) (h : i < 9) (k : i < length l) where
-  step : without_zeros (9 - i) (drop i l) ≡ cond (eqb (get_or l i 0) 48) (without_zeros (9 - (i + 1)) (drop (i + 1) l)) (get_or l i 0 ∷ drop (i + 1) l)
-  unfolding without_zeros
-  step =
-      let n : 9 - i ≡ suc (9 - (i + 1)) = omega arith in
-      rw (n, drop-cons l i 0 k) (ap (λ (j : ℕ). cond (eqb (get_or l i 0) 48) (without_zeros (9 - (i + 1)) (drop j l)) (get_or l i 0 ∷ drop j l)) (sym (add-one i)))
-
-  pub zero_passed : get_or l i 0 ≡ 48 → without_zeros (9 - i) (drop i l) ≡ without_zeros (9 - (i + 1)) (drop (i + 1) l)
-  zero_passed e = step ∙ rw (eq-eqb (get_or l i 0) 48 e) refl
-
-  pub other_found : (get_or l i 0 ≡ 48 → ⊥) → drop i l ≡ without_zeros (9 - i) (drop i l)
-  other_found e = drop-cons l i 0 k ∙ ap (λ (j : ℕ). get_or l i 0 ∷ drop j l) (sym (add-one i)) ∙ sym (step ∙ rw (ne_eqb (get_or l i 0) 48 e) refl)
-
-pub nine_passed : (l : List ℕ) (i : ℕ) → without_zeros 9 l ≡ without_zeros (9 - i) (drop i l) → i ≡ 9 → drop 9 l ≡ without_zeros 9 l
+pub zeros_passed : (k : ℕ) (l : List ℕ) → drop (prefix_len (λ d. eqb d 48) (take k l)) l ≡ without_zeros k l
 unfolding without_zeros
-nine_passed l i e h = sym (e ∙ ap (λ (j : ℕ). without_zeros (9 - j) (drop j l)) h)
+zeros_passed zero l = refl
+zeros_passed (suc k) [] = refl
+zeros_passed (suc k) (d ∷ l) = by (eqb d 48) (zeros_passed k l)
+  where
+    by : (b : Bool) → drop (prefix_len (λ n. eqb n 48) (take k l)) l ≡ without_zeros k l
+        → drop (cond b (1 + prefix_len (λ n. eqb n 48) (take k l)) 0) (d ∷ l) ≡ cond b (without_zeros k l) (d ∷ l)
+    by true e = rw one-add e
+    by false e = refl
 
 -- the last digits of ten
 pub tail : (l : List ℕ) (i : ℕ) → length l ≡ 10 → take (10 - i) (drop i l) ≡ drop i l

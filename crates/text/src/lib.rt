@@ -1,50 +1,38 @@
 // Text in a lent buffer.
 #![tactic(auto)]
 
-ghost use Rattle.std.specs.Prelude.{◌++◌, ◌≡◌, ◌≤◌, ◌-◌, min, length, drop};
+ghost use Rattle.std.specs.Prelude.{◌++◌, ◌≡◌, ◌≤◌, length, drop};
 ghost use Rattle.text.specs.Text as Text;
 
 // Puts as much of a text into out as fits from an offset on, and answers the place behind it.
+#[tactic(auto, using(crate::proofs::Puts::put_of, crate::proofs::Puts::put_beyond))]
 pub fn put(out: &mut [u8], at: usize, text: &[u8]) -> usize
     ensures { Text.Put text.now at out.old result out.new }
 {
-    let n = fitting(out.len(), at, text.len());
-    for i in 0..n {
-        out[at + i] = text[i];
+    if out.len() < at {
+        return at;
     }
+    let n = text.len().min(out.len() - at);
+    out[at..at + n].copy_from_slice(&text[..n]);
     at + n
-}
-
-// How many of a text's bytes fit
-fn fitting(room: usize, at: usize, size: usize) -> usize
-    ensures { result ≡ min (room - at) size }
-{
-    if room <= at {
-        return 0;
-    }
-    let left = room - at;
-    if left <= size {
-        return left;
-    }
-    size
 }
 
 fn digit(n: u32) -> u8
     ensures { result ≡ Text.digit n }
 {
-    48 + (n % 10) as u8
+    b'0' + (n % 10) as u8
 }
 
 fn ten_digits(n: u32) -> [u8; 10]
     ensures { result ≡ Text.ten_digits n }
 {
     [
-        digit(n / 1000000000),
-        digit(n / 100000000),
-        digit(n / 10000000),
-        digit(n / 1000000),
-        digit(n / 100000),
-        digit(n / 10000),
+        digit(n / 1_000_000_000),
+        digit(n / 100_000_000),
+        digit(n / 10_000_000),
+        digit(n / 1_000_000),
+        digit(n / 100_000),
+        digit(n / 10_000),
         digit(n / 1000),
         digit(n / 100),
         digit(n / 10),
@@ -53,19 +41,14 @@ fn ten_digits(n: u32) -> [u8; 10]
 }
 
 // How many zeros ten digits begin with, the last digit apart
-fn leading_zeros(digits: &[u8]) -> usize
-    requires { length digits.now ≡ 10 }
+fn leading_zeros(digits: &[u8; 10]) -> usize
     ensures { (result ≤ 9) × (drop result digits.now ≡ Text.without_zeros 9 digits.now) }
 {
-    for i in 0..9 {
-        if digits[i] != 48 {
-            return i;
-        }
-    }
-    9
+    digits[..9].iter().take_while(|d| **d == b'0').count()
 }
 
 // Puts a number in decimal.
+#[tactic(auto, using(crate::proofs::Puts::tail), unfolding(crate::specs::Text::decimal))]
 pub fn put_decimal(out: &mut [u8], at: usize, n: u32) -> usize
     ensures { Text.Put (Text.decimal n) at out.old result out.new }
 {
@@ -75,6 +58,7 @@ pub fn put_decimal(out: &mut [u8], at: usize, n: u32) -> usize
 }
 
 // Puts a number in decimal, and what follows it.
+#[tactic(auto, using(crate::proofs::Puts::put_put))]
 pub fn put_decimal_then(out: &mut [u8], at: usize, n: u32, after: &[u8]) -> usize
     ensures { Text.Put (Text.decimal n ++ after.now) at out.old result out.new }
 {
@@ -83,6 +67,7 @@ pub fn put_decimal_then(out: &mut [u8], at: usize, n: u32, after: &[u8]) -> usiz
 }
 
 // Puts three texts one after the other.
+#[tactic(auto, using(crate::proofs::Puts::put_put))]
 pub fn put_three<'a>(out: &mut [u8], at: usize, a: &'a [u8], b: &'a [u8], c: &'a [u8]) -> usize
     ensures { Text.Put (a.now ++ b.now ++ c.now) at out.old result out.new }
 {

@@ -1,19 +1,17 @@
-use mathlib.Core.Path.{sym, ◌∙◌, refl}
-use Rattle.text.proofs.Puts.{zero_passed, other_found, nine_passed}
-use native.Mathlib.Omega.{arith}
+use Rattle.std.proofs.Common.{ℕ, eqb, take, drop, length-take, ap, ◌∙◌, arith, rules, tests}
+use Rattle.std.proofs.lemmas.Iterator.{YieldsList-from_slice}
+use Rattle.std.proofs.lemmas.Iterator.Search.{YieldsList-from_take_while}
+use Rattle.std.proofs.lemmas.Iterator.Consumers.{count_from_yields_List}
+use Rattle.std.proofs.lemmas.List.Folds.{length-prefix_len}
+use Rattle.std.proofs.lemmas.List.Sums.{prefix_len-le-length}
+use Rattle.text.proofs.Puts.{zeros_passed}
 use Rattle.text.proofs.leading_zeros.Goals as goal
-
-pub loop-i-init : goal.loop-i-init
-loop-i-init c = (omega arith, refl)
-
-pub returns-then-digits-i-ne48 : goal.returns-then-digits-i-ne48
-returns-then-digits-i-ne48 c =
-    (omega arith, other_found c.args.digits.now c.loop-i.i (omega arith) (omega arith) c.if-digits-i-ne48.true ∙ sym c.loop-i.invariant.1)
-
-pub loop-i-preserved : goal.loop-i-preserved
-loop-i-preserved c =
-    (omega arith, c.loop-i.invariant.1 ∙ zero_passed c.args.digits.now c.loop-i.i (omega arith) (omega arith) c.if-digits-i-ne48.false)
 
 pub returns : goal.returns
 returns c =
-    (omega arith, nine_passed c.args.digits.now c.loop-i.i c.loop-i.invariant.1 (omega arith))
+    let l = c.args.digits.now in
+    let t = c.take_while.ensures in
+    let e = count_from_yields_List c.take_while.result _ c.count.ensures.ran
+    (YieldsList-from_take_while _ (λ d. eqb d 48) (YieldsList-from_slice (take 9 l) cc) t.closure t.done (λ x b q k. search (rules, tests))) ∙ length-prefix_len (λ d. eqb d 48) (take 9 l) in
+    let most = prefix_len-le-length (λ d. eqb d 48) (take 9 l) in
+    (omega (arith, length-take 9 l), ap (λ (n : ℕ). drop n l) e ∙ zeros_passed 9 l)
