@@ -88,6 +88,7 @@ impl ReducedSystem {
     }
 
     // The largest scaled gradient entry of all points and of the pose
+    #[tactic(auto, unfolding(crate::specs::Model::gradient_inf_norm))]
     pub fn scaled_gradient_inf_norm(self) -> f64
         ensures { result ≡ Model.gradient_inf_norm self }
     {
@@ -95,7 +96,7 @@ impl ReducedSystem {
         let diagonal = self.pose_diagonal;
         extrema::max(
             self.scaled_point_gradient_inf_norm,
-            gradient_norm::norm5(gradient, diagonal),
+            gradient_norm::norm(gradient, diagonal),
         )
     }
 
