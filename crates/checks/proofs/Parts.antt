@@ -1,22 +1,27 @@
--- Lengths that belong to a count, and parts of the lent lists. Assumes nothing.
+-- Lengths that belong to a count, and checks item by item. Assumes nothing.
 use mathlib.Core.Path.{◌≡◌, refl, sym, ap, ◌∙◌}
-use mathlib.Core.Bool.{Bool, true, false, ◌&&◌, cond}
-use mathlib.Core.List.{List, [], ◌∷◌}
-use Prim.Native.Nat.{ℕ, suc, ◌+◌, ◌-◌, ◌*◌, ◌/◌, ◌%◌, ◌<◌}
+use mathlib.Core.Bool.{Bool, true, false, ◌&&◌}
+use mathlib.Core.List.{List, [], ◌∷◌, map}
+use Prim.Native.Nat.{ℕ, suc, ◌+◌, ◌*◌, ◌/◌, ◌%◌, ◌<◌, ◌≤◌}
 use native.Mathlib.Nat.{div-add-mod', mul_comm, add-zero}
-use native.Mathlib.Numerals.{add-one}
-use native.Mathlib.Omega.{arith}
 use borrow.Author.Tests.{eqb-true, eqb-false, eq-eqb}
 use lib.Arith.{digits_div, digits_mod}
 use lib.Dec.{eqb}
-use lib.ListN.{length, take, drop}
+use lib.ListN.{length, drop, get_or}
+use lib.Ieee.{Float}
 use lib.Seq.{drop-cons}
-use lib.Ieee.{Float, nan}
-use Rattle.number.specs.Vectors.{◌!◌}
-use Rattle.refusal.specs.Refused.{is_none}
+use Rattle.std.specs.Prelude.{Result, Ok, Err}
+use Rattle.std.specs.Result.{result_and, is_ok}
+use Rattle.std.proofs.lemmas.List.{at_drop_all}
+use Rattle.refusal.specs.First.{Checked, first_of}
+use Rattle.refusal.specs.declared.Refusal.{Refusal}
+use Rattle.refusal.specs.declared.Refusal.TheVariants.{Projection}
+use Rattle.refusal.specs.declared.View.{View}
+use Rattle.refusal.specs.declared.View.TheVariants.{First, Second}
+use Rattle.refusal.proofs.Scans.{is_bad}
 use Rattle.projection.specs.declared.Projected.{Projected}
-use Rattle.correspondences.specs.declared.Rig.{Rig}
-use Rattle.correspondences.specs.Problem.{triple, pair, observation, project}
+use Rattle.correspondences.specs.Problem.{Problem, triple, pair, observation, project}
+use Rattle.checks.specs.Checks.{check_view, check_projection}
 
 -- by quotient and remainder
 pub multiple : (l e n : ℕ) → 0 < e → (eqb (l / e) n && eqb (l % e) 0) ≡ eqb l (e * n)
@@ -39,28 +44,42 @@ multiple l e n h = by (eqb l (e * n)) refl
         rw (eq-eqb (l / e) n (ap (λ (k : ℕ). k / e) m ∙ digits_div n h), eq-eqb (l % e) 0 (ap (λ (k : ℕ). k % e) m ∙ digits_mod n h)) refl
     by false q = parts (eqb (l / e) n) (eqb (l % e) 0) refl refl (eqb-false l (e * n) q)
 
--- the lengths, tested together
-pub fits : {x y z a b c : Bool} → x ≡ a → y ≡ b → z ≡ c → (x && y && z) ≡ (a && b && c)
-fits e f g = rw (e, f, g) refl
+-- ---- item by item of a list: those before i were not refused, and the rest decides the whole
+first_of_next : (r : Checked) (rs : List Checked) → first_of (r ∷ rs) ≡ result_and r (first_of rs)
+first_of_next (Ok tt) [] = refl
+first_of_next (Err e) [] = refl
+first_of_next r (s ∷ rs) = refl
 
-pub pair_part : (l : List Float) (i e : ℕ) → 2 * i + 1 < length l → e ≡ 2 * i + 2 → take (e - 2 * i) (drop (2 * i) l) ≡ pair l i
-pair_part l i e h k =
-    let n : e - 2 * i ≡ 2 = omega arith in
-    rw (n, drop-cons l (2 * i) nan (omega arith), drop-cons l (suc (2 * i)) nan (omega arith)) (ap (λ (j : ℕ). l ! (2 * i) ∷ l ! j ∷ []) (sym (add-one (2 * i))))
+module _ {A : Type 0} (whole : Checked) (check : A → Checked) (xs : List A) (i : ℕ) (inv : whole ≡ first_of (map check (drop i xs))) where
+  list_ends : length xs ≤ i → whole ≡ Ok tt
+  list_ends h = inv ∙ at_drop_all (λ (l : List A). first_of (map check l)) xs i h
 
--- what the test of a view says, from the projection of the two numbers seen
-module _ (view1 view2 : List Float) (view i : ℕ) (s : List Float) (e : s ≡ observation view1 view2 view i) where
-  two_seen : pair s 0 ≡ observation view1 view2 view i
-  two_seen = ap (λ (t : List Float). pair t 0) e ∙ by (eqb view 1)
-    where
-      by : (b : Bool) → pair (cond b (pair view1 i) (pair view2 i)) 0 ≡ cond b (pair view1 i) (pair view2 i)
-      by true = refl
-      by false = refl
+  list_leaves : (d : A) (r : Refusal) → i < length xs → check (get_or xs i d) ≡ Err r → whole ≡ Err r
+  list_leaves d r h e =
+      inv
+      ∙ ap (λ (l : List A). first_of (map check l)) (drop-cons xs i d h)
+      ∙ first_of_next (check (get_or xs i d)) (map check (drop (suc i) xs))
+      ∙ ap (λ (x : Checked). result_and x (first_of (map check (drop (suc i) xs)))) e
 
-  pub view_test : (h : Rig) (points seen point : List Float) (p : Projected) (b : Bool) → seen ≡ pair s 0 → point ≡ triple points i → p ≡ project h view seen point
-      → b ≡ is_none p.refusal → b ≡ is_none (project h view (observation view1 view2 view i) (triple points i)).refusal
-  view_test h points seen point p b d f g k =
-      k
-      ∙ ap (λ (q : Projected). is_none q.refusal) g
-      ∙ ap (λ (t : List Float). is_none (project h view t point).refusal) (d ∙ two_seen)
-      ∙ ap (λ (t : List Float). is_none (project h view (observation view1 view2 view i) t).refusal) f
+abbrev views : List View
+views = First ∷ Second ∷ []
+
+-- the views of a point from the k-th on
+module _ (p : Problem) (i k : ℕ) (inv : check_projection p i ≡ first_of (map (check_view p i) (drop k views))) where
+  pub views_end : 2 ≤ k → check_projection p i ≡ Ok tt
+  views_end h = list_ends (check_projection p i) (check_view p i) views k inv h
+
+  two_seen : (view : View) → pair (observation p.view1 p.view2 view i) 0 ≡ observation p.view1 p.view2 view i
+  two_seen First = refl
+  two_seen Second = refl
+
+  pub view_leaves : (view : View) (part seen point : List Float) (r : Result Projected Refusal) → k < 2 → view ≡ get_or views k First → part ≡ observation p.view1 p.view2 view i
+      → seen ≡ pair part 0
+      → point ≡ triple p.points i
+      → r ≡ project p.rig view seen point
+      → is_ok r ≡ false
+      → check_projection p i ≡ Err (Projection view i)
+  view_leaves view part seen point r h v a b c d e =
+      let same : r ≡ project p.rig view (observation p.view1 p.view2 view i) (triple p.points i) = rw (d, b, a, c, two_seen view) refl in
+      let refused : check_view p i view ≡ Err (Projection view i) = is_bad (Projection view i) _ (is_ok r) (ap is_ok same) e in
+      list_leaves (check_projection p i) (check_view p i) views k inv First (Projection view i) h (ap (check_view p i) (sym v) ∙ refused)

@@ -6,4 +6,4 @@
 
 mod rows;
 
-pub use rows::{MAXIMUM_POINTS, refused};
+pub use rows::{MAXIMUM_POINTS, check};

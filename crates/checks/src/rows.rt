@@ -2,182 +2,157 @@
 // SPDX-License-Identifier: MIT OR Apache-2.0
 
 // Rows 1 to 9, in that order.
-ghost use Rattle.std.specs.Prelude.{◌≡◌, ◌<◌, ◌*◌, ◌+◌, eqb, length};
+ghost use Rattle.std.specs.Prelude.{◌≡◌, ◌<◌, ◌≤◌, ◌*◌, ◌+◌, eqb, length};
 ghost use Rattle.refusal.specs.First as First;
-ghost use Rattle.correspondences.specs.Problem as Problem;
+ghost use Rattle.correspondences.specs.Problem as Problems;
 ghost use Rattle.checks.specs.Checks as Checks;
 
-use correspondences::Rig;
-use refusal::Row;
+use correspondences::Problem;
+use refusal::{Refusal, View};
 
-const MINIMUM_POINTS: u32 = 5;
+const MINIMUM_POINTS: usize = 5;
 
 // Row 2
 pub const MAXIMUM_POINTS: usize = 65535;
 
 // The first of rows 1 to 9 that a problem meets; row 1 is tested without the room.
-pub fn refused<'a>(
-    points: &[f64],
-    view1: &'a [f64],
-    view2: &'a [f64],
-    inverse_deviations: &[f64],
-    rig: Rig,
-    damping: f64,
-) -> Row
-    ensures { result ≡ Checks.refused (Problem.problem points.now view1.now view2.now
-        inverse_deviations.now rig damping) }
+#[tactic(auto, unfolding(crate::specs::Checks::check))]
+pub fn check(problem: &Problem) -> Result<(), Refusal>
+    ensures { result ≡ Checks.check (Problems.of problem.now) }
 {
-    let n = inverse_deviations.len();
-    if !(belongs(points.len(), 3, n) & belongs(view1.len(), 2, n) & belongs(view2.len(), 2, n)) {
-        return Row::of(refusal::LENGTHS);
+    let n = problem.count();
+    let fit = belongs(problem.points.len(), 3, n)
+        && belongs(problem.view1.len(), 2, n)
+        && belongs(problem.view2.len(), 2, n);
+    if !fit {
+        return Err(Refusal::Lengths);
     }
-    if !(n <= MAXIMUM_POINTS) {
-        return Row::of(refusal::TOO_MANY_POINTS);
+    if n > MAXIMUM_POINTS {
+        return Err(Refusal::TooManyPoints);
     }
-    values_refused(points, view1, view2, inverse_deviations, rig, damping)
+    check_values(problem)
 }
 
 // Whether a length is n times a number, by no product that could wrap
+#[tactic(auto, using(crate::proofs::Parts::multiple))]
 fn belongs(length: usize, each: usize, n: usize) -> bool
     requires { 0 < each }
     ensures { result ≡ eqb length (each * n) }
 {
-    (length / each == n) & (length % each == 0)
+    length / each == n && length % each == 0
 }
 
 // Rows 3 to 9
-fn values_refused<'a>(
-    points: &[f64],
-    view1: &'a [f64],
-    view2: &'a [f64],
-    inverse_deviations: &[f64],
-    rig: Rig,
-    damping: f64,
-) -> Row
-    requires { Checks.Fits points.now view1.now view2.now inverse_deviations.now }
-    ensures { result ≡ Checks.values_refused (Problem.problem points.now view1.now view2.now
-        inverse_deviations.now rig damping) }
+#[tactic(auto, unfolding(crate::specs::Checks::check_values))]
+fn check_values(problem: &Problem) -> Result<(), Refusal>
+    requires { Checks.Fits (Problems.of problem.now) }
+    ensures { result ≡ Checks.check_values (Problems.of problem.now) }
 {
-    let n = inverse_deviations.len() as u32;
-    let pose = rig.pose;
-    if !point_damping::good_damping(damping) {
-        return Row::of(refusal::DAMPING);
+    if !point_damping::good_damping(problem.damping) {
+        return Err(Refusal::Damping);
     }
-    let by_deviation = deviations_refused(inverse_deviations, n);
-    if !by_deviation.is_none() {
-        return by_deviation;
+    check_deviations(problem.inverse_deviations)?;
+    if !good_baseline(problem.rig.pose.baseline) {
+        return Err(Refusal::Baseline);
     }
-    if !good_baseline(pose.baseline) {
-        return Row::of(refusal::BASELINE);
+    check_points(problem.points, problem.count() as u32)?;
+    if problem.count() < MINIMUM_POINTS {
+        return Err(Refusal::TooFewPoints);
     }
-    let by_point = points_refused(points, n);
-    if !by_point.is_none() {
-        return by_point;
-    }
-    if !(MINIMUM_POINTS <= n) {
-        return Row::of(refusal::TOO_FEW_POINTS);
-    }
-    seen_refused(points, view1, view2, n, rig)
+    check_seen(problem)
 }
 
 // Row 4
-fn deviations_refused(inverse_deviations: &[f64], n: u32) -> Row
-    ensures { result ≡ First.first (Checks.deviation_refused inverse_deviations.now) 0 n }
+#[tactic(auto, using(refusal::proofs::Scans::leaves, refusal::proofs::Scans::goes_on, refusal::proofs::Scans::ends))]
+fn check_deviations(inverse_deviations: &[f64]) -> Result<(), Refusal>
+    requires { length inverse_deviations.now ≤ Checks.max_points }
+    ensures { result ≡ First.first (Checks.check_deviation inverse_deviations.now) 0 (length inverse_deviations.now) }
 {
-    for i in 0..n {
-        if !views::good_deviation(vectors::entry(inverse_deviations, i as usize)) {
-            return Row::at(refusal::INVERSE_DEVIATION, 0, i);
+    for (i, x) in inverse_deviations.iter().enumerate() {
+        if !views::good_deviation(*x) {
+            return Err(Refusal::InverseDeviation { index: i as u32 });
         }
     }
-    Row::none()
+    Ok(())
 }
 
 // Row 5
+#[tactic(auto, unfolding(crate::specs::Checks::good_baseline))]
 fn good_baseline(baseline: f64) -> bool
     ensures { result ≡ Checks.good_baseline baseline }
 {
-    number::is_finite(baseline) & !(baseline <= number::EPSILON64)
+    number::is_finite(baseline) && !(baseline <= number::EPSILON64)
 }
 
 // Row 6
-fn points_refused(points: &[f64], n: u32) -> Row
-    ensures { result ≡ First.first (Checks.point_refused points.now) 0 n }
+#[tactic(auto, using(refusal::proofs::Scans::leaves, refusal::proofs::Scans::goes_on, refusal::proofs::Scans::ends))]
+fn check_points(points: &[f64], n: u32) -> Result<(), Refusal>
+    ensures { result ≡ First.first (Checks.check_point points.now) 0 n }
 {
-    for i in 0..n {
-        let point = correspondences::point_at(points, i);
+    for index in 0..n {
+        let point = correspondences::point_at(points, index);
         if !vectors::all_finite(&point) {
-            return Row::at(refusal::POINT, 0, i);
+            return Err(Refusal::Point { index });
         }
     }
-    Row::none()
+    Ok(())
 }
 
 // Rows 8 and 9
-fn seen_refused<'a>(points: &[f64], view1: &'a [f64], view2: &'a [f64], n: u32, rig: Rig) -> Row
-    requires { (length view1.now ≡ 2 * n) × (length view2.now ≡ 2 * n) }
-    ensures { result ≡ Checks.seen_refused rig points.now view1.now view2.now n }
+#[tactic(auto, unfolding(crate::specs::Checks::check_seen))]
+fn check_seen(problem: &Problem) -> Result<(), Refusal>
+    requires { Checks.Fits (Problems.of problem.now) }
+    ensures { result ≡ Checks.check_seen (Problems.of problem.now) }
 {
-    let in_view1 = view_refused(view1, 1, n);
-    if !in_view1.is_none() {
-        return in_view1;
-    }
-    let in_view2 = view_refused(view2, 2, n);
-    if !in_view2.is_none() {
-        return in_view2;
-    }
-    projections_refused(points, view1, view2, n, rig)
+    let n = problem.count() as u32;
+    check_view(View::First, problem.view1, n)?;
+    check_view(View::Second, problem.view2, n)?;
+    check_projections(problem)
 }
 
 // Row 8 for one view
-fn view_refused(view: &[f64], number: u32, n: u32) -> Row
-    ensures { result ≡ First.first (Checks.observation_refused number view.now) 0 n }
+#[tactic(auto, using(refusal::proofs::Scans::leaves, refusal::proofs::Scans::goes_on, refusal::proofs::Scans::ends))]
+fn check_view(name: View, view: &[f64], n: u32) -> Result<(), Refusal>
+    ensures { result ≡ First.first (Checks.check_observation name view.now) 0 n }
 {
-    for i in 0..n {
-        let observation = correspondences::pair_at(view, i);
+    for index in 0..n {
+        let observation = correspondences::pair_at(view, index);
         if !vectors::all_finite(&observation) {
-            return Row::at(refusal::OBSERVATION, number, i);
+            return Err(Refusal::Observation { view: name, index });
         }
     }
-    Row::none()
+    Ok(())
 }
 
 // Row 9: both loops are left at the first view that does not project.
-fn projections_refused<'a>(
-    points: &[f64],
-    view1: &'a [f64],
-    view2: &'a [f64],
-    n: u32,
-    rig: Rig,
-) -> Row
-    requires { (length view1.now ≡ 2 * n) × (length view2.now ≡ 2 * n) }
-    ensures { result ≡ First.first (Checks.projection_refused rig points.now view1.now view2.now) 0 n }
+#[tactic(auto, using(refusal::proofs::Scans::leaves, refusal::proofs::Scans::goes_on, refusal::proofs::Scans::ends))]
+fn check_projections(problem: &Problem) -> Result<(), Refusal>
+    requires { Checks.Fits (Problems.of problem.now) }
+    ensures { result ≡ First.first (Checks.check_projection (Problems.of problem.now)) 0 (Problems.count (Problems.of problem.now)) }
 {
-    let mut place = Row::none();
-    'points: for i in 0..n {
-        let point = correspondences::point_at(points, i);
-        for view in 1..=2u32 {
-            let part = observation(view1, view2, view, i);
+    let mut checked = Ok(());
+    'points: for index in 0..problem.count() as u32 {
+        let point = correspondences::point_at(problem.points, index);
+        'views: for view in [View::First, View::Second] {
+            let part = observation(problem.view1, problem.view2, view, index);
             let seen = correspondences::pair_at(part, 0);
-            let projected = correspondences::project(rig, view, seen, point);
-            let refusal = projected.refusal;
-            if !refusal.is_none() {
-                place = Row::at(refusal::PROJECTION, view, i);
+            if correspondences::project(problem.rig, view, seen, point).is_err() {
+                checked = Err(Refusal::Projection { view, index });
                 break 'points;
             }
         }
     }
-    place
+    checked
 }
 
 // The part of view 1 or 2 that holds the two numbers of a point
-fn observation<'a>(view1: &'a [f64], view2: &'a [f64], view: u32, i: u32) -> &'a [f64]
+fn observation<'a>(view1: &'a [f64], view2: &'a [f64], view: View, i: u32) -> &'a [f64]
     requires { (2 * i + 1 < length view1.now) × (2 * i + 1 < length view2.now) }
-    ensures { result.now ≡ Problem.observation view1.now view2.now view i }
+    ensures { result.now ≡ Problems.observation view1.now view2.now view i }
 {
     let at = 2 * (i as usize);
-    if view == 1 {
-        &view1[at..at + 2]
-    } else {
-        &view2[at..at + 2]
+    match view {
+        View::First => &view1[at..at + 2],
+        View::Second => &view2[at..at + 2],
     }
 }

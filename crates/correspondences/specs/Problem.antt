@@ -9,6 +9,7 @@ use Rattle.projection.specs.Projection.{pixel_projection}
 use Rattle.projection.specs.declared.Projected.{Projected}
 use Rattle.views.specs.declared.Correspondence.{Correspondence}
 use Rattle.views.specs.declared.Rig.{Rig}
+use Rattle.correspondences.specs.declared.Problem as Lent
 
 -- three numbers a point, two a point in each view, one a point
 pub record Problem : Type 0 where
@@ -21,6 +22,10 @@ pub record Problem : Type 0 where
 
 abbrev pub problem : List Float → List Float → List Float → List Float → Rig → Float → Problem
 problem points view1 view2 deviations rig damping = record { points = points; view1 = view1; view2 = view2; deviations = deviations; rig = rig; damping = damping }
+
+-- the problem that lent lists make
+abbrev pub of : Lent.Problem → Problem
+of p = problem p.points.now p.view1.now p.view2.now p.inverse_deviations.now p.rig p.damping
 
 -- n, where the lengths belong to one count
 abbrev pub count : Problem → ℕ
@@ -41,8 +46,8 @@ abbrev pub observation : List Float → List Float → View → ℕ → List Flo
 observation view1 view2 First i = pair view1 i
 observation view1 view2 Second i = pair view2 i
 
-abbrev pub correspondence_at : List Float → List Float → List Float → List Float → ℕ → Correspondence
-correspondence_at points view1 view2 deviations i = record { point = triple points i; view1 = pair view1 i; view2 = pair view2 i; inverse_deviation = deviations ! i }
+abbrev pub correspondence_at : Problem → ℕ → Correspondence
+correspondence_at p i = record { point = triple p.points i; view1 = pair p.view1 i; view2 = pair p.view2 i; inverse_deviation = p.deviations ! i }
 
 -- `transform` and `project` of residual.rs: a point as a view sees it
 unfoldable pub project : Rig → View → List Float → List Float → Result Projected Refusal

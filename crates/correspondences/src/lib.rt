@@ -6,7 +6,7 @@
 #![tactic(auto)]
 
 ghost use Rattle.std.specs.Prelude.{◌≡◌, ◌<◌};
-ghost use Rattle.correspondences.specs.Problem as Problem;
+ghost use Rattle.correspondences.specs.Problem as Problems;
 
 use projection::Projected;
 use refusal::{Refusal, View};
@@ -14,16 +14,48 @@ use std::array;
 use views::Correspondence;
 pub use views::Rig;
 
+// What a whole step is lent and handed: three numbers a point, two a point in each view, one a point
+#[derive(Clone, Copy)]
+pub struct Problem<'a> {
+    pub points: &'a [f64],
+    pub view1: &'a [f64],
+    pub view2: &'a [f64],
+    pub inverse_deviations: &'a [f64],
+    pub rig: Rig,
+    pub damping: f64,
+}
+
+impl<'a> Problem<'a> {
+    // n, where the lengths belong to one count
+    pub fn count(&self) -> usize
+        ensures { result ≡ Problems.count (Problems.of self.now) }
+    {
+        self.inverse_deviations.len()
+    }
+
+    // The correspondence at an index, which may lie beyond the end
+    pub fn correspondence_at(&self, i: u32) -> Correspondence
+        ensures { result ≡ Problems.correspondence_at (Problems.of self.now) i }
+    {
+        Correspondence {
+            point: point_at(self.points, i),
+            view1: pair_at(self.view1, i),
+            view2: pair_at(self.view2, i),
+            inverse_deviation: vectors::entry(self.inverse_deviations, i as usize),
+        }
+    }
+}
+
 // A point of three numbers
 pub fn point_at(points: &[f64], i: u32) -> [f64; 3]
-    ensures { result ≡ Problem.triple points.now i }
+    ensures { result ≡ Problems.triple points.now i }
 {
     numbers_at(points, i)
 }
 
 // The two numbers of a point in a view
 pub fn pair_at(view: &[f64], i: u32) -> [f64; 2]
-    ensures { result ≡ Problem.pair view.now i }
+    ensures { result ≡ Problems.pair view.now i }
 {
     numbers_at(view, i)
 }
@@ -31,31 +63,13 @@ pub fn pair_at(view: &[f64], i: u32) -> [f64; 2]
 // The N numbers at an index. One test covers them all, for speed.
 fn numbers_at<const N: usize>(values: &[f64], i: u32) -> [f64; N]
     requires { N < 4 }
-    ensures { result ≡ Problem.numbers N values.now i }
+    ensures { result ≡ Problems.numbers N values.now i }
 {
     let at = N * (i as usize);
     if at + N <= values.len() {
         return array::from_fn(|k| values[at + k]);
     }
     array::from_fn(|k| vectors::entry(values, at + k))
-}
-
-// The correspondence at an index, which may lie beyond the end
-pub fn correspondence_at(
-    points: &[f64],
-    view1: &[f64],
-    view2: &[f64],
-    inverse_deviations: &[f64],
-    i: u32,
-) -> Correspondence
-    ensures { result ≡ Problem.correspondence_at points.now view1.now view2.now inverse_deviations.now i }
-{
-    Correspondence {
-        point: point_at(points, i),
-        view1: pair_at(view1, i),
-        view2: pair_at(view2, i),
-        inverse_deviation: vectors::entry(inverse_deviations, i as usize),
-    }
 }
 
 // A point as a view sees it
@@ -66,7 +80,7 @@ pub fn project(
     observation: [f64; 2],
     point: [f64; 3],
 ) -> Result<Projected, Refusal>
-    ensures { result ≡ Problem.project rig view observation point }
+    ensures { result ≡ Problems.project rig view observation point }
 {
     match view {
         View::First => projection::pixel_projection(rig.camera1, observation, point),
