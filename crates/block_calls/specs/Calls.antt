@@ -1,6 +1,7 @@
 -- What the calls on a point answer, and what the memory that they may write holds afterwards: the result where nothing is refused, and what it held before otherwise.
 use Rattle.std.specs.Prelude.{◌&&◌, List, [], ◌∷◌, Float}
 use Rattle.number.specs.Vectors.{◌!◌}
+use Rattle.refusal.specs.Refused.{map_ok}
 use Rattle.projection.specs.Projection as Projection
 use Rattle.linearization.specs.Linearize as Linearize
 use Rattle.point_step.specs.PointStep as PointStep
@@ -23,15 +24,11 @@ point_step_numbers p = p.step ! 0 ∷ p.step ! 1 ∷ p.step ! 2 ∷ p.damping_no
 
 unfoldable pub pixel_projection : List Float → List Float → List Float → List Float → Answer Float
 pixel_projection c observation point out =
-    let p = Projection.pixel_projection (camera c) observation point in
-    answer (long c 5 && long observation 2 && long point 3 && long out 8) p.refusal (projection_numbers p) out
+    answer (long c 5 && long observation 2 && long point 3 && long out 8) (map_ok projection_numbers (Projection.pixel_projection (camera c) observation point)) out
 
 unfoldable pub linearize_point : List Float → List Float → List Float → Answer Float
-linearize_point x d out =
-    let b = Linearize.linearize_point (rig x).camera1 (rig x).camera2 (rig x).pose (correspondence d) in
-    answer (long x 29 && long d 8 && long out 59) b.refusal (block_numbers b) out
+linearize_point x d out = answer (long x 29 && long d 8 && long out 59) (map_ok block_numbers (Linearize.linearize_point (rig x) (correspondence d))) out
 
 unfoldable pub point_step : List Float → Float → List Float → List Float → Answer Float
 point_step b damping pose_step out =
-    let p = PointStep.point_step (block b) damping pose_step in
-    answer (long b 59 && long pose_step 5 && long out 4) p.refusal (point_step_numbers p) out
+    answer (long b 59 && long pose_step 5 && long out 4) (map_ok point_step_numbers (PointStep.point_step (block b) damping pose_step)) out

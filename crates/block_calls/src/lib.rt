@@ -10,6 +10,7 @@ use point_step::PointStep;
 use projection::Projected;
 
 // camera: fx, fy, cx, cy, skew; observation: 2; point: 3; out: residual 2, Jacobian 6
+#[tactic(auto, unfolding(crate::specs::Calls::pixel_projection, answers::specs::Answers::answer))]
 pub fn pixel_projection(camera: &[f64], observation: &[f64], point: &[f64], out: &mut [f64]) -> u64
     ensures { Answers.Answered result out.new
         (Calls.pixel_projection camera.now observation.now point.now out.old) }
@@ -17,17 +18,16 @@ pub fn pixel_projection(camera: &[f64], observation: &[f64], point: &[f64], out:
     if !((camera.len() == 5) & (observation.len() == 2) & (point.len() == 3) & (out.len() == 8)) {
         return answers::lengths();
     }
-    let p = projection::pixel_projection(
+    let projected = projection::pixel_projection(
         flat::camera(camera, 0),
-        slices::vector2(observation, 0),
-        slices::vector3(point, 0),
+        slices::vector(observation, 0),
+        slices::vector(point, 0),
     );
-    let refusal = p.refusal;
-    let values = projection_numbers(p);
-    answers::answer(refusal, &values, out)
+    answers::answer(projected.map(projection_numbers), out)
 }
 
 // rig: 29; correspondence: point, view 1, view 2, inverse deviation, 8; out: a block
+#[tactic(auto, unfolding(crate::specs::Calls::linearize_point, answers::specs::Answers::answer))]
 pub fn linearize_point(rig: &[f64], correspondence: &[f64], out: &mut [f64]) -> u64
     ensures { Answers.Answered result out.new
         (Calls.linearize_point rig.now correspondence.now out.old) }
@@ -35,22 +35,15 @@ pub fn linearize_point(rig: &[f64], correspondence: &[f64], out: &mut [f64]) -> 
     if !((rig.len() == 29) & (correspondence.len() == 8) & (out.len() == 59)) {
         return answers::lengths();
     }
-    let r = flat::rig(rig);
-    let camera1 = r.camera1;
-    let camera2 = r.camera2;
-    let pose = r.pose;
-    let b = linearization::linearize_point(
-        camera1,
-        camera2,
-        pose,
+    let block = linearization::linearize_point(
+        flat::rig(rig),
         flat::correspondence(correspondence),
     );
-    let refusal = b.refusal;
-    let values = flat_numbers::block_numbers(b);
-    answers::answer(refusal, &values, out)
+    answers::answer(block.map(flat_numbers::block_numbers), out)
 }
 
 // pose_step: 5; out: step 3, damping norm
+#[tactic(auto, unfolding(crate::specs::Calls::point_step, answers::specs::Answers::answer))]
 pub fn point_step_with_damping_norm(
     block: &[f64],
     damping: f64,
@@ -63,11 +56,12 @@ pub fn point_step_with_damping_norm(
     if !((block.len() == 59) & (pose_step.len() == 5) & (out.len() == 4)) {
         return answers::lengths();
     }
-    let b = flat::block(block);
-    let p = point_step::point_step_with_damping_norm(b, damping, slices::vector5(pose_step, 0));
-    let refusal = p.refusal;
-    let values = point_step_numbers(p);
-    answers::answer(refusal, &values, out)
+    let step = point_step::point_step_with_damping_norm(
+        flat::block(block),
+        damping,
+        slices::vector(pose_step, 0),
+    );
+    answers::answer(step.map(point_step_numbers), out)
 }
 
 // Residual and Jacobian

@@ -1,7 +1,9 @@
 -- Laws of the larger and the smaller of two values, and of the largest of a list. A number here is a value that is no NaN. Assumes nothing.
 use mathlib.Core.Path.{◌≡◌, refl, sym, ap, ◌∙◌, subst}
 use mathlib.Core.Bool.{Bool, true, false, not, ◌&&◌, ◌||◌, cond, and-true}
-use mathlib.Core.List.{List, [], ◌∷◌}
+use mathlib.Core.List.{List, [], ◌∷◌, ◌++◌}
+use Rattle.std.specs.Prelude.{fold}
+use Rattle.std.proofs.lemmas.List.Sums.{fold-append}
 use Prim.Native.Nat.{◌*◌}
 use lib.Dec.{T, eqb, eqb→eq}
 use lib.Ieee.{Float, nan, inf, fin, Format, up, down, of_bits, lt, eq, le, fits, is_nan}
@@ -11,7 +13,7 @@ use Rattle.number.specs.Binary64.{zero}
 use Rattle.number.specs.Parts.{negative, nonneg}
 use Rattle.number.proofs.Values.{same_value}
 use Rattle.number.proofs.Order.{eq_comm, not_lt, le_of_not_lt, le_refl, nonneg_not_nan, nonneg_is, not_negative, nonneg_above}
-use Rattle.extrema.specs.Extrema.{max, min, larger, Larger, max_from, largest}
+use Rattle.extrema.specs.Extrema.{max, min, larger, Larger, largest}
 use Rattle.extrema.proofs.Picks.{pick_has, eq_number, lt_numbers}
 
 no_lt_nan : (x y : Float) → is_nan y ≡ true → lt x y ≡ false
@@ -104,19 +106,20 @@ larger_is f low x p q = record {
         by true e = refl
         by false e = sym e
 
--- the largest of a list, one comparison each
-abbrev larger_from : Float → List Float → Float
-larger_from low [] = low
-larger_from low (x ∷ xs) = larger_from (larger low x) xs
+-- ---- the largest of a list
 
-largest_select : (low : Float) (xs : List Float) → T (nonneg low) → max_from low xs ≡ larger_from low xs
-largest_select low [] n = refl
-largest_select low (x ∷ xs) n = largest_select (max low x) xs (nonneg_max low x n) ∙ ap (λ (y : Float). larger_from y xs) (max_select low x n)
-
-pub nonneg_largest : (low : Float) (xs : List Float) → T (nonneg low) → T (nonneg (max_from low xs))
+pub nonneg_largest : (low : Float) (xs : List Float) → T (nonneg low) → T (nonneg (fold max low xs))
 nonneg_largest low [] n = n
 nonneg_largest low (x ∷ xs) n = nonneg_largest (max low x) xs (nonneg_max low x n)
 
--- the largest of three, found by one comparison each
-pub largest_three : (x y z a b c : Float) → a ≡ larger zero x → b ≡ larger a y → c ≡ larger b z → c ≡ largest (x ∷ y ∷ z ∷ [])
-largest_three x y z a b c e f g = rw (largest_select zero (x ∷ y ∷ z ∷ []) (unfold nonneg of_bits in tt)) (cc)
+-- One comparison each finds it: what was found of xs is clear of the sign, and so is what is found of one more.
+abbrev pub Found : List Float → Float → Type 0
+Found xs low = T (nonneg low) × (low ≡ largest xs)
+
+pub found_none : Found [] zero
+found_none = (unfold nonneg of_bits in tt, refl)
+
+pub found_more : (xs : List Float) (low x r : Float) → Found xs low → Larger low x r → Found (xs ++ (x ∷ [])) r
+found_more xs low x r h l =
+    let e : r ≡ max low x = l.first h.0 in
+    (subst (λ (y : Float). T (nonneg y)) (sym e) (nonneg_max low x h.0), e ∙ ap (λ (y : Float). max y x) h.1 ∙ sym (fold-append max zero xs (x ∷ [])))

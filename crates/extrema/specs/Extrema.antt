@@ -1,5 +1,5 @@
 -- `f64::max` and `f64::min` as document 01 has them: a NaN is passed over when the other is a number. Of unlike zeros `max` gives +0 and `min` gives −0.
-use Rattle.std.specs.Prelude.{◌≡◌, not, ◌&&◌, ◌||◌, cond, List, [], ◌∷◌, T, Float}
+use Rattle.std.specs.Prelude.{◌≡◌, not, ◌&&◌, ◌||◌, cond, List, fold, T, Float}
 use Rattle.std.specs.Float.Ieee.{is_nan, lt, eq}
 use Rattle.number.specs.Binary64.{zero}
 use Rattle.number.specs.Parts.{negative, nonneg}
@@ -22,11 +22,6 @@ pub record Larger (low x r : Float) : Type 0 where
   pub first : T (nonneg low) → r ≡ max low x
   pub second : T (nonneg low) → r ≡ max x low
 
--- `.fold(low, f64::max)`
-abbrev pub max_from : Float → List Float → Float
-max_from low [] = low
-max_from low (x ∷ xs) = max_from (max low x) xs
-
 -- `.fold(0.0, f64::max)`
 abbrev pub largest : List Float → Float
-largest xs = max_from zero xs
+largest xs = fold max zero xs

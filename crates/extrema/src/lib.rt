@@ -47,9 +47,15 @@ pub fn larger(low: f64, x: f64) -> f64
     if low < x { x } else { low }
 }
 
-// The largest of three numbers and +0. A NaN is passed over.
+// The largest of some numbers and +0. A NaN is passed over.
+pub fn largest<const N: usize>(xs: [f64; N]) -> f64
+    ensures { result ≡ Extrema.largest xs.entry }
+{
+    xs.iter().fold(0.0, |low, x| larger(low, *x))
+}
+
 pub fn largest3(x: f64, y: f64, z: f64) -> f64
     ensures { result ≡ Extrema.largest (x ∷ y ∷ z ∷ []) }
 {
-    larger(larger(larger(0.0, x), y), z)
+    largest([x, y, z])
 }

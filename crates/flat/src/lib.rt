@@ -2,7 +2,7 @@
 // count 0.
 #![tactic(auto)]
 
-ghost use Rattle.std.specs.Prelude.{◌≡◌, get_or};
+ghost use Rattle.std.specs.Prelude.{◌≡◌, get_or, length};
 ghost use Rattle.slices.specs.Slices as Slices;
 ghost use Rattle.flat.specs.Flat as Flat;
 
@@ -13,7 +13,8 @@ use views::{Correspondence, Pose, Rig};
 
 // Five numbers, from `start` on
 pub fn camera(x: &[f64], start: u32) -> PinholeCamera
-    ensures { result ≡ Flat.camera (Slices.part start 5 x.now) }
+    ensures part { result ≡ Flat.camera (Slices.part start 5 x.now) }
+    ensures whole { start ≡ 0 → length x.now ≡ 5 → result ≡ Flat.camera x.now }
 {
     let numbers = slices::vector::<5>(x, start);
     PinholeCamera {

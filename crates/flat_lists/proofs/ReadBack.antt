@@ -8,7 +8,6 @@ use lib.Dec.{eqb}
 use lib.ListN.{length, length-append}
 use lib.Ieee.{Float}
 use Rattle.number.specs.Vectors.{◌!◌}
-use Rattle.refusal.specs.Refused.{none}
 use Rattle.linearization.specs.declared.linearize.LocalLinearization.{LocalLinearization}
 use Rattle.reduced_system.specs.declared.ReducedSystem.{ReducedSystem}
 use Rattle.slices.specs.Slices.{part}
@@ -137,21 +136,8 @@ block_parts b k =
 pub block_long : (b : LocalLinearization) → SizedBlock b → length (block_numbers b) ≡ 59
 block_long b k = (block_parts b k).long
 
--- the numbers do not say why a block was refused
-unfoldable pub unrefused : LocalLinearization → LocalLinearization
-unrefused b = record {
-  pose_hessian = b.pose_hessian;
-  cross_hessian = b.cross_hessian;
-  point_hessian = b.point_hessian;
-  pose_gradient = b.pose_gradient;
-  point_gradient = b.point_gradient;
-  cost = b.cost;
-  squared_residual = b.squared_residual;
-  refusal = none;
-}
-
-pub block_read : (b : LocalLinearization) → SizedBlock b → block (block_numbers b) ≡ unrefused b
-unfolding block part unrefused
+pub block_read : (b : LocalLinearization) → SizedBlock b → block (block_numbers b) ≡ b
+unfolding block part
 block_read b k =
     let p = block_parts b k in
     λ j. record {
@@ -162,5 +148,4 @@ block_read b k =
       point_gradient = p.fifth j;
       cost = p.sixth j ! 0;
       squared_residual = p.sixth j ! 1;
-      refusal = none;
     }

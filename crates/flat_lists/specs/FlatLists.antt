@@ -1,9 +1,8 @@
 -- A list of adds over the C interface, each on the memory that the one before left: what stands there after them, and the codes that they hand back.
 use Rattle.std.specs.Prelude.{◌≡◌, List, [], ◌∷◌, map, Float}
-use Rattle.reduced_system.specs.declared.Added.{Added}
 use Rattle.reduced_system.specs.Model.{new_system}
 use Rattle.list_of_adds.specs.Calls.{made, Call, at_damping, at_refused, results, after}
-use Rattle.answers.specs.Answers.{code}
+use Rattle.answers.specs.Answers.{number}
 use Rattle.flat.specs.Flat.{system}
 use Rattle.flat_numbers.specs.FlatNumbers.{block_numbers, system_numbers, system_counts}
 use Rattle.system_calls.specs.Calls.{SystemAnswer, add}
@@ -28,6 +27,6 @@ pub record Reaches (d : Float) (calls : List Call) (m : SystemAnswer) : Type 0 w
   pub begins : m.number ≡ 0
   pub numbers : (left d m calls).numbers ≡ system_numbers (after d new_system calls)
   pub counts : (left d m calls).counts ≡ system_counts (after d new_system calls)
-  pub codes : map (λ (a : SystemAnswer). a.number) (answers d m calls) ≡ map (λ (r : Added). code r.refusal) (results d new_system calls)
+  pub codes : map (λ (a : SystemAnswer). a.number) (answers d m calls) ≡ map number (results d new_system calls)
   -- what any further call on that memory works on
   pub read : system (left d m calls).numbers (left d m calls).counts ≡ after d new_system calls

@@ -1,11 +1,8 @@
 -- The scaled gradient norm, by the test of its scale. Assumes nothing.
-use mathlib.Core.Path.{◌≡◌, refl, sym}
-use Prim.Native.Nat.{ℕ}
-use mathlib.Core.Bool.{Bool, true, false, not, ◌&&◌, and-true}
-use mathlib.Core.List.{List}
-use borrow.Author.Tests.{not-true, not-false}
+use Rattle.std.proofs.Common.{◌≡◌, refl, ap, ℕ, zero as zero·, suc, Bool, true, false, ◌&&◌, List, [], ◌∷◌, length, arith}
+use Rattle.std.specs.List.{list_all}
 use lib.Dec.{T}
-use lib.Ieee.{Float, of_bits, eq}
+use lib.Ieee.{Float, inf, binary64, of_bits, eq}
 use Rattle.number.specs.Binary64.{◌⊗◌, zero, epsilon64}
 use Rattle.number.specs.Parts.{nonneg, positive_finite}
 use Rattle.number.specs.Vectors.{◌!◌, tabulate, all_zero}
@@ -14,33 +11,32 @@ use Rattle.extrema.specs.Extrema.{largest}
 use Rattle.extrema.proofs.Laws.{nonneg_largest}
 use Rattle.gradient_norm.specs.GradientNorm.{scaled, unscaled, scaled_gradient_inf_norm}
 
-three : (a b c : Bool) → (a && b && c) ≡ (a && (b && (c && true)))
-three true true c = sym (and-true c)
-three true false c = refl
-three false b c = refl
+pub infinite : of_bits binary64 9218868437227405312 ≡ inf false
+unfolding of_bits
+infinite = refl
 
-five : (a b c d e : Bool) → (a && b && c && d && e) ≡ (a && (b && (c && (d && (e && true)))))
-five true true c d e = three c d e
-five true false c d e = refl
-five false b c d e = refl
+-- a list of n entries, entry by entry
+entries : (n : ℕ) (l : List Float) → length l ≡ n → l ≡ tabulate n (λ i. l ! i)
+entries zero· [] e = refl
+entries zero· (x ∷ l) e = absurd (omega arith)
+entries (suc n) [] e = absurd (omega arith)
+entries (suc n) (x ∷ l) e = ap (λ (t : List Float). x ∷ t) (entries n l (omega arith))
 
-pub three_zeros : (g : List Float) → (eq (g ! 0) zero && eq (g ! 1) zero && eq (g ! 2) zero) ≡ all_zero (tabulate 3 (λ i. g ! i))
+pub all_is_zero : (l : List Float) → list_all (λ x. eq x zero) l ≡ all_zero l
 unfolding all_zero
-three_zeros g = three (eq (g ! 0) zero) (eq (g ! 1) zero) (eq (g ! 2) zero)
+all_is_zero [] = refl
+all_is_zero (x ∷ l) = ap (λ (b : Bool). eq x zero && b) (all_is_zero l)
 
-pub five_zeros : (g : List Float) → (eq (g ! 0) zero && eq (g ! 1) zero && eq (g ! 2) zero && eq (g ! 3) zero && eq (g ! 4) zero) ≡ all_zero (tabulate 5 (λ i. g ! i))
-unfolding all_zero
-five_zeros g = five (eq (g ! 0) zero) (eq (g ! 1) zero) (eq (g ! 2) zero) (eq (g ! 3) zero) (eq (g ! 4) zero)
-
--- the floor of a scale is clear of the sign
-pub floor_clear : (n : ℕ) (d : List Float) (s : Float) → s ≡ largest (tabulate n (λ i. d ! i)) → T (nonneg (epsilon64 ⊗ s))
-floor_clear n d s e = rw e (nonneg_floor _ (nonneg_largest zero (tabulate n (λ i. d ! i)) (unfold nonneg of_bits in tt)))
-
-module _ (n : ℕ) (g d : List Float) (s : Float) (e : s ≡ largest (tabulate n (λ i. d ! i))) (f : Bool) (t : f ≡ positive_finite s) where
-  pub norm_unscaled : (r : Float) (z : Bool) → not f ≡ true → z ≡ all_zero (tabulate n (λ i. g ! i)) → r ≡ unscaled z → r ≡ scaled_gradient_inf_norm n g d
+module _ (n : ℕ) (g d : List Float) (p : length g ≡ n) (q : length d ≡ n) (s : Float) (e : s ≡ largest d) where
+  pub norm_unscaled : (r : Float) (z : Bool) → positive_finite s ≡ false → z ≡ all_zero g → r ≡ unscaled z → r ≡ scaled_gradient_inf_norm n g d
   unfolding scaled_gradient_inf_norm
-  norm_unscaled r z p h q = rw (← e, ← t, not-true f p, ← h) q
+  norm_unscaled r z t h k = rw (← entries n g p, ← entries n d q, ← e, t, ← h) k
 
-  pub norm_scaled : (r : Float) → not f ≡ false → r ≡ largest (tabulate n (λ i. scaled (g ! i) (d ! i) (epsilon64 ⊗ s))) → r ≡ scaled_gradient_inf_norm n g d
+  -- the floor of a scale is clear of the sign
+  pub floor_clear : T (nonneg (epsilon64 ⊗ s))
+  floor_clear = rw e (nonneg_floor _ (nonneg_largest zero d (unfold nonneg of_bits in tt)))
+
+  pub norm_scaled : (r : Float) (v : List Float) → positive_finite s ≡ true → v ≡ tabulate n (λ i. scaled (g ! i) (d ! i) (epsilon64 ⊗ s)) → r ≡ largest v
+      → r ≡ scaled_gradient_inf_norm n g d
   unfolding scaled_gradient_inf_norm
-  norm_scaled r p q = rw (← e, ← t, not-false f p) q
+  norm_scaled r v t h k = rw (← entries n d q, ← e, t, ← h) k

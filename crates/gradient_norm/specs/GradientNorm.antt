@@ -1,8 +1,8 @@
 -- `scaled_gradient_inf_norm` of schur.rs. Document 01, "The system".
-use Rattle.std.specs.Prelude.{ℕ, Bool, cond, false, List, [], ◌∷◌, Float}
+use Rattle.std.specs.Prelude.{◌≡◌, ℕ, T, Bool, cond, false, List, [], ◌∷◌, Float}
 use Rattle.std.specs.Float.{inf}
 use Rattle.number.specs.Binary64.{◌⊗◌, ◌⊘◌, zero, epsilon64}
-use Rattle.number.specs.Parts.{abs, positive_finite}
+use Rattle.number.specs.Parts.{abs, nonneg, positive_finite}
 use Rattle.root.specs.Root.{sqrt}
 use Rattle.number.specs.Vectors.{◌!◌, tabulate, all_zero}
 use Rattle.extrema.specs.Extrema.{max, largest}
@@ -10,6 +10,10 @@ use Rattle.extrema.specs.Extrema.{max, largest}
 -- a gradient's entry by the root of its curvature
 abbrev pub scaled : Float → Float → Float → Float
 scaled value curvature floor = abs value ⊘ sqrt (max curvature floor)
+
+-- what gives that entry where the floor is clear of the sign
+pub record Scaled (value curvature floor r : Float) : Type 0 where
+  pub is : T (nonneg floor) → r ≡ scaled value curvature floor
 
 -- 0 for an all-zero gradient, else +∞
 unfoldable pub unscaled : Bool → Float

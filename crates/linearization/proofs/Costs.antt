@@ -26,7 +26,8 @@ use Rattle.views.specs.declared.Correspondence.{Correspondence}
 use Rattle.views.specs.declared.LinearizedViews.{LinearizedViews}
 use Rattle.loss.specs.Loss.{norm, loss_cost}
 use Rattle.views.specs.Views.{good_deviation, weighted_views, seen, linearize_views}
-use Rattle.linearization.specs.Linearize.{no_block, block_or_zeros, map_ok, sums, block, linearize_point}
+use Rattle.refusal.specs.Refused.{map_ok}
+use Rattle.linearization.specs.Linearize.{no_block, block_or_zeros, sums, block, linearize_point}
 
 abbrev pub Costs : LocalLinearization → Type 0
 Costs b = T (nonneg b.cost) × T (nonneg b.squared_residual)

@@ -2,6 +2,7 @@
 use Rattle.std.specs.Prelude.{List, Float, Result, Ok, Err}
 use Rattle.number.specs.Binary64.{◌⊕◌, ◌⊗◌, zero}
 use Rattle.number.specs.Vectors.{tabulate, zeros}
+use Rattle.refusal.specs.Refused.{map_ok}
 use Rattle.refusal.specs.declared.Refusal.{Refusal}
 use Rattle.linearization.specs.declared.linearize.LocalLinearization.{LocalLinearization}
 use Rattle.linearization.specs.declared.terms.PointTerms.{PointTerms}
@@ -30,11 +31,6 @@ no_block = record {
 abbrev pub block_or_zeros : Result LocalLinearization Refusal → LocalLinearization
 block_or_zeros (Ok b) = b
 block_or_zeros (Err r) = no_block
-
--- what f makes of the value, or the refusal
-abbrev pub map_ok : {A B : Type 0} → (A → B) → Result A Refusal → Result B Refusal
-map_ok f (Ok x) = Ok (f x)
-map_ok f (Err r) = Err r
 
 -- the pose's ten derivatives in view 1
 abbrev pub pose_rows : View1 → List Float

@@ -4,6 +4,7 @@
 // What the step of a point needs of its block: neither the pose's own terms nor the cost, so that
 // the second pass over the points makes no more than this.
 ghost use Rattle.std.specs.Prelude.{◌≡◌};
+ghost use Rattle.refusal.specs.Refused.{map_ok};
 ghost use Rattle.linearization.specs.Linearize as Linearize;
 
 use crate::linearize::LocalLinearization;
@@ -20,7 +21,7 @@ pub struct PointTerms {
 // The terms of a correspondence's block. Tests row 4, then row 9 with view 1 or 2.
 #[tactic(auto, unfolding(crate::specs::Linearize::linearize_point, crate::specs::Linearize::point_terms, crate::specs::Linearize::block, crate::specs::Linearize::sums))]
 pub fn point_terms(rig: Rig, correspondence: Correspondence) -> Result<PointTerms, Refusal>
-    ensures { result ≡ Linearize.map_ok Linearize.point_terms (Linearize.linearize_point rig correspondence) }
+    ensures { result ≡ map_ok Linearize.point_terms (Linearize.linearize_point rig correspondence) }
 {
     let views = views::linearize_views(rig, correspondence)?;
     Ok(terms(views.first, views.second))

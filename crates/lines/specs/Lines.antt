@@ -2,7 +2,8 @@
 use Rattle.std.specs.Prelude.{ℕ, List, [], ◌∷◌, ◌++◌, Float}
 use Rattle.std.specs.Float.{binary64}
 use Rattle.std.specs.Float.Ieee.{to_bits}
-use Rattle.refusal.specs.declared.Row.{Row}
+use Rattle.refusal.specs.Refused.{row}
+use Rattle.refusal.specs.declared.Refusal.{Refusal}
 use Rattle.hex_digits.specs.Hex.{digits}
 use Rattle.text.specs.Text.{space, line_feed, decimal}
 
@@ -19,7 +20,8 @@ unfoldable pub point_line : ℕ → ℕ → List ℕ
 point_line i l = 112 ∷ space ∷ [] ++ decimal i ++ (space ∷ l ∷ line_feed ∷ [])
 
 -- `refused`, number, view, index
-unfoldable pub refused_line : Row → List ℕ
-refused_line r =
+unfoldable pub refused_line : Refusal → List ℕ
+refused_line refusal =
+    let r = row refusal in
     114 ∷ 101 ∷ 102 ∷ 117 ∷ 115 ∷ 101 ∷ 100 ∷ space ∷ [] ++ decimal r.number ++ (space ∷ []) ++ decimal r.view ++ (space ∷ []) ++ decimal r.index
     ++ (line_feed ∷ [])

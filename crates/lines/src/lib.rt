@@ -4,7 +4,7 @@
 ghost use Rattle.lines.specs.Lines as Lines;
 ghost use Rattle.text.specs.Text as Text;
 
-use refusal::Row;
+use refusal::Refusal;
 
 // `run`, the number of points, the damping's bits
 pub fn put_run(out: &mut [u8], at: usize, n: u32, damping: f64) -> usize
@@ -24,6 +24,7 @@ pub fn put_bits(out: &mut [u8], at: usize, x: f64, after: &[u8]) -> usize
 }
 
 // `p`, the index, the letter
+#[tactic(auto, using(text::proofs::Puts::put_put), unfolding(crate::specs::Lines::point_line))]
 pub fn put_point(out: &mut [u8], at: usize, i: u32, letter: u8) -> usize
     ensures { Text.Put (Lines.point_line i letter) at out.old result out.new }
 {
@@ -32,11 +33,12 @@ pub fn put_point(out: &mut [u8], at: usize, i: u32, letter: u8) -> usize
 }
 
 // `refused`, number, view, index
-pub fn put_refused(out: &mut [u8], at: usize, refusal: Row) -> usize
+pub fn put_refused(out: &mut [u8], at: usize, refusal: Refusal) -> usize
     ensures { Text.Put (Lines.refused_line refusal) at out.old result out.new }
 {
+    let row = refusal.row();
     let number_at = text::put(out, at, b"refused ");
-    let view_at = text::put_decimal_then(out, number_at, refusal.number, b" ");
-    let index_at = text::put_decimal_then(out, view_at, refusal.view, b" ");
-    text::put_decimal_then(out, index_at, refusal.index, b"\n")
+    let view_at = text::put_decimal_then(out, number_at, row.number, b" ");
+    let index_at = text::put_decimal_then(out, view_at, row.view, b" ");
+    text::put_decimal_then(out, index_at, row.index, b"\n")
 }

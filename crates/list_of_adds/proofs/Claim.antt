@@ -1,6 +1,6 @@
 -- Demand 3, proved: one induction over the calls. Assumes nothing.
 use mathlib.Core.Path.{◌≡◌, refl, sym, ap, ◌∙◌, subst}
-use mathlib.Core.Bool.{Bool, true, false, not, ◌&&◌, ◌||◌, cond, and-true, and_assoc}
+use mathlib.Core.Bool.{Bool, true, false, not, ◌&&◌, ◌||◌, cond, and-true, and_assoc, true≢false}
 use mathlib.Core.List.{List, [], ◌∷◌, ◌++◌, map}
 use Prim.Native.Nat.{ℕ, suc, ◌+◌, ◌≤◌}
 use native.Mathlib.Omega.{arith}
@@ -10,20 +10,22 @@ use lib.ListN.{length}
 use lib.Ieee.{Float, fits, binary64, le, of_bits}
 use lib.Ieee.Bits.{is_true}
 use lib.Ieee.Fits.{add-fits}
-use Rattle.number.specs.Binary64.{◌⊕◌, zero}
+use Rattle.number.specs.Binary64.{◌⊕◌, zero, epsilon192}
 use Rattle.number.specs.Parts.{nonneg}
 use Rattle.number.proofs.Order.{le_refl, nonneg_not_nan, nonneg_add}
 use Rattle.number.proofs.Monotone.{le_add, le_trans, zero-le, nonneg_zero}
 use Rattle.extrema.specs.Extrema.{min}
 use Rattle.extrema.proofs.Laws.{min_le_left, nonneg_min}
-use Rattle.std.specs.Prelude.{Result, Ok, Err, Some, None}
+use Rattle.std.specs.Prelude.{Result, Ok, Err, Some, None, is_ok}
 use Rattle.std.specs.Result.{result_err}
-use Rattle.refusal.specs.Refused.{is_none}
 use Rattle.refusal.specs.declared.Refusal.{Refusal}
 use Rattle.refusal.specs.declared.Refusal.TheVariants.{Damping, Full}
 use Rattle.point_block.specs.Condition.{reciprocal_condition_number, is_weak}
 use Rattle.point_damping.specs.Damping.{good_damping}
 use Rattle.point_block.specs.Lone.{factor, lone_factor}
+use Rattle.point_block.specs.declared.PointBlockFactor.{PointBlockFactor}
+use Rattle.point_block.specs.declared.LoneFactor.{LoneFactor}
+use Rattle.block_elimination.specs.declared.Change.{Change}
 use Rattle.point_block.proofs.Laws.{lone_factors, rcond_nonneg}
 use Rattle.linearization.specs.declared.linearize.LocalLinearization.{LocalLinearization}
 use Rattle.reduced_system.specs.declared.ReducedSystem.{ReducedSystem}
@@ -55,24 +57,49 @@ module _ (d : Float) (good : T (good_damping d)) where
 
   -- ---- a block taken in: whether it factors is the lone factor's answer
 
-  abbrev inverse : LocalLinearization → List Float
-  inverse b = (factor b.point_hessian d).inverse
+  abbrev inverse_in : Result PointBlockFactor Refusal → List Float
+  inverse_in (Ok f) = f.inverse
+  inverse_in (Err r) = []
 
-  same_factor : (b : LocalLinearization) → is_none (factor b.point_hessian d).refusal ≡ factors d b
+  abbrev inverse : LocalLinearization → List Float
+  inverse b = inverse_in (factor b.point_hessian d)
+
+  same_factor : (b : LocalLinearization) → is_ok (factor b.point_hessian d) ≡ factors d b
   unfolding factors
   same_factor b = sym (lone_factors b.point_hessian d good)
 
+  -- the lone factor's answer, by the factor's
+  abbrev lone_of : LocalLinearization → Result PointBlockFactor Refusal → Result LoneFactor Refusal
+  lone_of b f = elim f [ Ok g ↦ Ok (record { factor = g; rcond = reciprocal_condition_number g.inverse b.point_hessian }) | Err r ↦ Err r ]
+
   same_rcond : (b : LocalLinearization) → factors d b ≡ true → is_weak (inverse b) b.point_hessian ≡ small_rcond d b
   unfolding lone_factor small_rcond
-  same_rcond b e = rw (is_true (good_damping d) good, same_factor b ∙ e) refl
+  same_rcond b e = rw (is_true (good_damping d) good) (by (factor b.point_hessian d) (same_factor b ∙ e))
+    where
+      by : (f : Result PointBlockFactor Refusal) → is_ok f ≡ true
+          → is_weak (inverse_in f) b.point_hessian ≡ le (elim (lone_of b f) [ Ok g ↦ g.rcond | Err r ↦ zero ]) epsilon192
+      by (Ok f) t = refl
+      by (Err r) t = absurd (true≢false (sym t))
+
+  -- what the elimination of a block changes, by the answer on its factor
+  abbrev changed_by : Result PointBlockFactor Refusal → ReducedSystem → LocalLinearization → Change
+  changed_by r s b = elim r [ Ok f ↦ eliminated s b d f.inverse | Err e ↦ not_eliminated s (is_zero d) ]
 
   taken_factored : (s : ReducedSystem) (b : LocalLinearization) → factors d b ≡ true → taken s b d ≡ taken_by s b (eliminated s b d (inverse b))
   unfolding taken eliminate
-  taken_factored s b e = rw (same_factor b ∙ e) refl
+  taken_factored s b e = by (factor b.point_hessian d) (same_factor b ∙ e)
+    where
+      by : (f : Result PointBlockFactor Refusal) → is_ok f ≡ true → taken_by s b (changed_by f s b) ≡ taken_by s b (eliminated s b d (inverse_in f))
+      by (Ok f) t = refl
+      by (Err r) t = absurd (true≢false (sym t))
 
   taken_refused : (s : ReducedSystem) (b : LocalLinearization) → factors d b ≡ false → taken s b d ≡ taken_by s b (not_eliminated s (is_zero d))
   unfolding taken eliminate
-  taken_refused s b e = rw (same_factor b ∙ e) refl
+  taken_refused s b e = by (factor b.point_hessian d) (same_factor b ∙ e)
+    where
+      by : (f : Result PointBlockFactor Refusal) → is_ok f ≡ false → taken_by s b (changed_by f s b) ≡ taken_by s b (not_eliminated s (is_zero d))
+      by (Ok f) t = absurd (true≢false t)
+      by (Err r) t = refl
 
   split : (s : ReducedSystem) (b : LocalLinearization) (P : ReducedSystem → Type 0) → (factors d b ≡ true → P (taken_by s b (eliminated s b d (inverse b))))
       → (factors d b ≡ false → P (taken_by s b (not_eliminated s (is_zero d)))) → P (taken s b d)
@@ -239,7 +266,7 @@ module _ (d : Float) (good : T (good_damping d)) where
     b = made i
 
     costs : Costs b
-    costs = made_costs i.camera1 i.camera2 i.pose i.correspondence
+    costs = made_costs i.rig i.correspondence
 
     next_sound : Sound (taken s b d)
     next_sound = sound_taken s b k costs.0 costs.1

@@ -1,30 +1,26 @@
 -- Calls of `add`, one after the other, and the tally of them: document 01, "A list of adds".
-use Rattle.std.specs.Prelude.{ℕ, suc, ◌≡◌, Bool, true, false, not, ◌&&◌, ◌||◌, cond, List, [], ◌∷◌, ltb, Float, Result, Option, Some, None}
+use Rattle.std.specs.Prelude.{ℕ, suc, ◌≡◌, Bool, true, false, not, ◌&&◌, ◌||◌, cond, List, [], ◌∷◌, ltb, Float, Result, Ok, Err, Option, Some, None, is_ok}
 use Rattle.std.specs.Float.Ieee.{le, eq}
 use Rattle.number.specs.Binary64.{zero, epsilon192}
-use Rattle.refusal.specs.Refused.{is_none}
 use Rattle.refusal.specs.declared.Refusal.{Refusal}
 use Rattle.refusal.specs.declared.Refusal.TheVariants.{Damping, Full}
-use Rattle.projection.specs.declared.PinholeCamera.{PinholeCamera}
 use Rattle.point_damping.specs.Damping.{good_damping}
 use Rattle.point_block.specs.Lone.{lone_factor}
 use Rattle.linearization.specs.declared.linearize.LocalLinearization.{LocalLinearization}
-use Rattle.views.specs.declared.Pose.{Pose}
+use Rattle.views.specs.declared.Rig.{Rig}
 use Rattle.views.specs.declared.Correspondence.{Correspondence}
 use Rattle.reduced_system.specs.declared.ReducedSystem.{ReducedSystem}
-use Rattle.linearization.specs.Linearize.{linearize_point}
+use Rattle.linearization.specs.Linearize.{block_or_zeros, linearize_point}
 use Rattle.list_of_adds.specs.System.{max_blocks, add, handed_back}
 
 -- what a block is made from
 pub record Inputs : Type 0 where
-  pub camera1 : PinholeCamera
-  pub camera2 : PinholeCamera
-  pub pose : Pose
+  pub rig : Rig
   pub correspondence : Correspondence
 
 -- what the block maker returns, a refused point's +0 everywhere too
 abbrev pub made : Inputs → LocalLinearization
-made i = linearize_point i.camera1 i.camera2 i.pose i.correspondence
+made i = block_or_zeros (linearize_point i.rig i.correspondence)
 
 -- A call brings a block that the block maker returned, from any inputs, and the list's damping or one that row 3 refuses.
 pub data Call : Type 0 where
@@ -68,10 +64,11 @@ start = record { flag = true; blocks = 0; weak = 0 }
 
 -- "A block factors if the lone factor gives one for it at the list's damping, and its rcond is the one given there; otherwise it is a refused block."
 unfoldable pub factors : Float → LocalLinearization → Bool
-factors d b = is_none (lone_factor b.point_hessian d).refusal
+factors d b = is_ok (lone_factor b.point_hessian d)
 
+-- the rcond given there; of a refused block it is +0
 unfoldable pub small_rcond : Float → LocalLinearization → Bool
-small_rcond d b = le (lone_factor b.point_hessian d).rcond epsilon192
+small_rcond d b = le (elim (lone_factor b.point_hessian d) [ Ok f ↦ f.rcond | Err r ↦ zero ]) epsilon192
 
 -- below row 13's block count
 abbrev pub not_full : ℕ → Bool

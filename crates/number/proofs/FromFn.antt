@@ -14,7 +14,7 @@ use Rattle.number.specs.Vectors.{◌!◌, tabulate}
 
 -- The closure stays as it was at each call, and gives f of the index.
 module _ {F A : Type 0} {g : Mut F (ℕ × Unit {0}) A} {s : F} (l : List A) (f : ℕ → A)
-  (gives : (i : ℕ) (x : A) (q : F) → Called g s (i, tt) x q → (q ≡ s) × (x ≡ f i)) where
+    (gives : (i : ℕ) (x : A) (q : F) → Called g s (i, tt) x q → (q ≡ s) × (x ≡ f i)) where
   entry_of : (n i k m : ℕ) (d : A) (p : F) → p ≡ s → IsFromFnResultFrom g p l i n → k + i ≡ m → k < n → get_or l m d ≡ f m
   entry_of zero i k m d p e r a b = absurd (omega arith)
   entry_of (suc n) i zero m d p e r a b =

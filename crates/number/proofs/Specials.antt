@@ -5,7 +5,7 @@ use Prim.Native.Nat.{ℕ, ◌*◌, ◌%◌, ◌≤◌, ◌<◌}
 use native.Mathlib.Omega.{arith}
 use borrow.Author.Tests.{lt-ltb, le-ltb, le-leb, lt-leb}
 use lib.Dec.{T, leb}
-use lib.Ieee.{Float, nan, inf, fin, Format, binary64, neg, div, ne, fits, is_nan, hid, ones, top, of_bits, nan_bits, to_bits}
+use lib.Ieee.{Float, nan, inf, fin, Format, binary64, neg, ne, fits, is_nan, hid, ones, top, of_bits, nan_bits, to_bits}
 use lib.Ieee.Bits.{nan_bits_is, nan_bits_above, to_bits-lt}
 use lib.Ieee.Compare.{differs_from_itself}
 use lib.Ieee.Fits.{inf-fits, neg-fits}
@@ -13,9 +13,14 @@ use Rattle.number.specs.Parts.{negative}
 
 -- ---- a NaN
 
-pub zero_by_zero : div binary64 (of_bits binary64 0) (of_bits binary64 0) ≡ nan
-unfolding div of_bits
-zero_by_zero = refl
+-- the NaN by its pattern, and its pattern
+pub nan_of_pattern : of_bits binary64 0x7ff8_0000_0000_0000 ≡ nan
+unfolding of_bits
+nan_of_pattern = refl
+
+pub nan_pattern : to_bits binary64 nan ≡ 0x7ff8_0000_0000_0000
+unfolding to_bits
+nan_pattern = refl
 
 -- `x != x` is a test for a NaN
 pub ne_nan : (x : Float) → ne x x ≡ true → x ≡ nan
@@ -27,7 +32,7 @@ not_ne_nan nan h = true≢false h
 not_ne_nan (inf s) h = tt
 not_ne_nan (fin s m e) h = tt
 
-nan_of_is_nan : (x : Float) → is_nan x ≡ true → x ≡ nan
+pub nan_of_is_nan : (x : Float) → is_nan x ≡ true → x ≡ nan
 unfolding is_nan
 nan_of_is_nan nan h = refl
 nan_of_is_nan (inf s) h = absurd (false≢true h)

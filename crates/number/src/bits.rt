@@ -4,21 +4,23 @@ ghost use Rattle.std.specs.Float.Ieee as Ieee;
 ghost use Rattle.std.specs.Float.{binary64};
 
 // The pattern of x. Of a NaN it is always 7FF8000000000000.
+#[tactic(auto, using(crate::proofs::Specials::nan_of_is_nan, crate::proofs::Specials::nan_pattern))]
 pub fn to_bits(x: f64) -> u64
     ensures { result ≡ Ieee.to_bits binary64 x }
 {
-    if x != x {
+    if x.is_nan() {
         return 0x7ff8_0000_0000_0000;
     }
     f64::to_bits(x)
 }
 
 // The value of a pattern. Every pattern of a NaN gives the NaN.
+#[tactic(auto, using(crate::proofs::Specials::nan_of_pattern, crate::proofs::Specials::nan_of_bits, crate::proofs::Specials::no_nan_bits))]
 pub fn from_bits(b: u64) -> f64
     ensures { result ≡ Ieee.of_bits binary64 b }
 {
     if 0x7ff0_0000_0000_0000 < b % 0x8000_0000_0000_0000 {
-        return 0.0 / 0.0;
+        return f64::NAN;
     }
     f64::from_bits(b)
 }

@@ -5,6 +5,7 @@ ghost use Rattle.number.specs.Parts as Parts;
 
 // `f64::abs`. The difference from 0 gives +0 for either zero, where a change of sign would turn +0
 // into −0.
+#[tactic(auto, using(crate::proofs::Differences::abs_above, crate::proofs::Differences::abs_rest))]
 pub fn abs(x: f64) -> f64
     ensures { result ≡ Parts.abs x }
 {
@@ -12,6 +13,7 @@ pub fn abs(x: f64) -> f64
 }
 
 // `f64::is_finite`. An infinity less itself is a NaN.
+#[tactic(auto, using(crate::proofs::Differences::finite_test))]
 pub fn is_finite(x: f64) -> bool
     ensures { result ≡ Parts.is_finite x }
 {

@@ -27,7 +27,7 @@ pub fn point_step_with_damping_norm(
 ) -> Result<PointStep, Refusal>
     ensures { result ≡ Steps.point_step local damping pose_step }
 {
-    step_of_terms(linearization::terms_of(local), damping, pose_step)
+    step_of_terms(PointTerms::from(local), damping, pose_step)
 }
 
 // The same from what a step needs of the block

@@ -13,7 +13,7 @@ use std::array;
 fn pose_floor(d: [f64; 5]) -> f64
     ensures { result ≡ PoseDamping.pose_floor d }
 {
-    number::EPSILON64 * extrema::max(gradient_norm::largest5(d), number::MIN_POSITIVE)
+    number::EPSILON64 * extrema::max(extrema::largest(d), number::MIN_POSITIVE)
 }
 
 // The pose diagonal, each entry at least the floor

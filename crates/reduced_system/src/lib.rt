@@ -79,7 +79,7 @@ impl ReducedSystem {
         let diagonal = self.pose_diagonal;
         extrema::max(
             self.scaled_point_gradient_inf_norm,
-            gradient_norm::norm5(gradient, diagonal),
+            gradient_norm::norm(gradient, diagonal),
         )
     }
 

@@ -1,8 +1,7 @@
-// What the test programs print: a name, patterns as sixteen capital hexadecimal digits, counts,
-// refusals as three numbers.
+// What the test programs print: a name, patterns as sixteen capital hexadecimal digits, counts, refusals.
 #![tactic(auto)]
 
-use refusal::Row;
+use refusal::Refusal;
 use std::io;
 
 // A line: a figure's name and its value's pattern
@@ -27,8 +26,8 @@ pub fn pattern(rt: &impl Print, b: u64) -> io::Result<()> {
 }
 
 pub fn patterns(rt: &impl Print, values: &[f64]) -> io::Result<()> {
-    for i in 0..values.len() {
-        pattern(rt, number::to_bits(values[i]))?;
+    for x in values {
+        pattern(rt, number::to_bits(*x))?;
     }
     Ok(())
 }
@@ -37,18 +36,15 @@ pub fn count(rt: &impl Print, n: u64) -> io::Result<()> {
     print!(rt; " {n}")
 }
 
-// ` refused`, number, view, index
-pub fn refused(rt: &impl Print, refusal: Row) -> io::Result<()> {
-    rt.write_all(b" refused")?;
-    count(rt, refusal.number as u64)?;
-    count(rt, refusal.view as u64)?;
-    count(rt, refusal.index as u64)
+// A space, and the refusal as it displays
+pub fn refused(rt: &impl Print, refusal: Refusal) -> io::Result<()> {
+    print!(rt; " {refusal}")
 }
 
 // The same, where there is one
-pub fn refused_if(rt: &impl Print, refusal: Row) -> io::Result<()> {
-    if !refusal.is_none() {
-        refused(rt, refusal)?;
+pub fn refused_if(rt: &impl Print, refusal: Option<Refusal>) -> io::Result<()> {
+    match refusal {
+        Some(refusal) => refused(rt, refusal),
+        None => Ok(()),
     }
-    Ok(())
 }

@@ -34,5 +34,5 @@ fn validity(valid: bool) -> u8
 fn verdict(valid: bool, weak: u16) -> u8
     ensures { result ≡ SumLine.verdict valid weak }
 {
-    if valid & (weak == 0) { b'u' } else { b'x' }
+    if valid && weak == 0 { b'u' } else { b'x' }
 }

@@ -105,11 +105,7 @@ fn alone(x: f64) -> [f64; 1]
 
 // Stores the system where nothing was refused, and answers 0 or the refusal's code.
 #[tactic(auto, unfolding(flat_numbers::specs::FlatNumbers::system_counts))]
-fn answer(
-    answered: Result<ReducedSystem, Refusal>,
-    system: &mut [f64],
-    counts: &mut [u16],
-) -> u64
+fn answer(answered: Result<ReducedSystem, Refusal>, system: &mut [f64], counts: &mut [u16]) -> u64
     requires { (length system.old ≡ 45) × (length counts.old ≡ 3) }
     ensures number { result ≡ Answers.number answered }
     ensures numbers { system.new ≡ Answers.stored (map_ok FlatNumbers.system_numbers answered) system.old }

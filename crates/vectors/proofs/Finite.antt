@@ -1,8 +1,8 @@
--- Whether every entry is finite, as `all` answers it, and the NaN by its pattern. Assumes nothing.
+-- Whether every entry is finite, as `all` answers it. Assumes nothing.
 use mathlib.Core.Path.{◌≡◌, refl, ap}
 use mathlib.Core.Bool.{Bool, ◌&&◌}
 use mathlib.Core.List.{List, [], ◌∷◌}
-use lib.Ieee.{Float, nan, binary64, of_bits}
+use lib.Ieee.{Float}
 use Rattle.std.specs.List.{list_all}
 use Rattle.number.specs.Parts.{is_finite}
 use Rattle.number.specs.Vectors.{all_finite}
@@ -11,7 +11,3 @@ pub all_is_finite : (l : List Float) → list_all is_finite l ≡ all_finite l
 unfolding all_finite
 all_is_finite [] = refl
 all_is_finite (x ∷ l) = ap (λ (b : Bool). is_finite x && b) (all_is_finite l)
-
-pub nan_of_pattern : of_bits binary64 9221120237041090560 ≡ nan
-unfolding of_bits
-nan_of_pattern = refl

@@ -6,7 +6,7 @@ ghost use Rattle.number.specs.Vectors as Vectors;
 ghost use Rattle.number.specs.Vectors.{◌!◌};
 
 // The entry at i; beyond the end a NaN, as in the definitions
-#[tactic(auto, using(crate::proofs::Finite::nan_of_pattern))]
+#[tactic(auto, using(number::proofs::Specials::nan_of_pattern))]
 pub fn entry(values: &[f64], i: usize) -> f64
     ensures { result ≡ values.now ! i }
 {

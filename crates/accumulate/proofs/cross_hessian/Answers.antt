@@ -9,7 +9,7 @@ loop-i-init c = (omega arith, array_none 15 _)
 
 pub loop-i-preserved : goal.loop-i-preserved
 loop-i-preserved c =
-    let e = c.pose_column-row.ensures in (
+    let e = c.column-row.ensures in (
       omega arith,
       row_of_three _ _ _ _ _ _ _ c.loop-i.invariant.1
           (rw (c.product.ensures, e) refl)
@@ -21,4 +21,4 @@ loop-i-preserved c =
 pub returns : goal.returns
 unfolding by_rows cross_hessian
 returns c =
-    rw (← c.point_column-c2.ensures, ← c.point_column-c1.ensures, ← c.point_column-c0.ensures) (array_full _ _ _ _ c.loop-i.invariant.1 (omega arith))
+    rw (← c.column-c2.ensures, ← c.column-c1.ensures, ← c.column-c0.ensures) (array_full _ _ _ _ c.loop-i.invariant.1 (omega arith))

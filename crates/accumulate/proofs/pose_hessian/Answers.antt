@@ -9,14 +9,14 @@ loop-i-init c = (omega arith, array_none 25 _)
 
 pub loop-i-preserved : goal.loop-i-preserved
 loop-i-preserved c =
-    let e = c.pose_column-x.ensures in (
+    let e = c.column-x.ensures in (
       omega arith,
       row_of_five _ _ _ _ _ _ _ _ _ c.loop-i.invariant.1
-          (rw (c.product.ensures, e, c.pose_column-c0.ensures) refl)
-          (rw (c.product-in-loop-i.ensures, e, c.pose_column-c1.ensures) refl)
-          (rw (c.product-in-loop-i-2.ensures, e, c.pose_column-c2.ensures) refl)
-          (rw (c.product-in-loop-i-3.ensures, e, c.pose_column-c3.ensures) refl)
-          (rw (c.product-in-loop-i-4.ensures, e, c.pose_column-c4.ensures) refl)
+          (rw (c.product.ensures, e, c.column-c0.ensures) refl)
+          (rw (c.product-in-loop-i.ensures, e, c.column-c1.ensures) refl)
+          (rw (c.product-in-loop-i-2.ensures, e, c.column-c2.ensures) refl)
+          (rw (c.product-in-loop-i-3.ensures, e, c.column-c3.ensures) refl)
+          (rw (c.product-in-loop-i-4.ensures, e, c.column-c4.ensures) refl)
           (omega arith),
     )
 

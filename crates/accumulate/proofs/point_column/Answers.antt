@@ -1,8 +1,0 @@
--- `accumulate::point_column` meets its contract. Assumes nothing.
-use Rattle.accumulate.specs.Accumulate.{column}
-use mathlib.Core.Path.{refl}
-use Rattle.accumulate.proofs.point_column.Goals as goal
-
-pub returns : goal.returns
-unfolding column
-returns c = refl

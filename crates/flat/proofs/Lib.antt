@@ -1,2 +1,0 @@
--- A law of structs from flat numbers.
-pub mod Laws
