@@ -15,7 +15,7 @@ use Rattle.point_damping.specs.Damping.{good_damping}
 use Rattle.pose_damping.specs.PoseDamping.{damped_hessian}
 use Rattle.reduced_system.specs.Model.{new_system, with_hessian, finish_damping, is_valid}
 use Rattle.checks.specs.Checks.{max_points}
-use Rattle.list_of_adds.specs.System.{max_blocks}
+use Rattle.list_of_adds.specs.System.{max_blocks, handed_back}
 use Rattle.list_of_adds.specs.Claim.{WeakCount}
 use Rattle.list_of_adds.specs.Calls.{Inputs, Call, at_damping, after, factors, small_rcond, at_zero, blocks_in, all, filter}
 use Rattle.linearization.specs.declared.linearize.LocalLinearization.{LocalLinearization}
@@ -28,7 +28,7 @@ use Rattle.assembly.specs.Assembly.{block_of, block_at, system_to, reduced_syste
 -- ---- the problem's blocks as calls of `add`, from an index on
 
 abbrev inputs : Problem → ℕ → Inputs
-inputs p i = record { camera1 = p.rig.camera1; camera2 = p.rig.camera2; pose = p.rig.pose; correspondence = correspondence_at p.points p.view1 p.view2 p.deviations i }
+inputs p i = record { rig = p.rig; correspondence = correspondence_at p i }
 
 abbrev calls : Problem → ℕ → ℕ → List Call
 calls p i zero = []
@@ -65,7 +65,7 @@ unfolding is_valid
 valid_flag s e = (both_hold s.valid (all_finite s.gradient) (both_hold (s.valid && all_finite s.gradient) (all_finite s.hessian) e).0).0
 
 -- the pose damping changes the Hessian alone
-damped : (s : ReducedSystem) (d : Float) → T (good_damping d) → (finish_damping s d).system ≡ with_hessian s (damped_hessian s.hessian s.pose_diagonal d)
+damped : (s : ReducedSystem) (d : Float) → T (good_damping d) → handed_back s (finish_damping s d) ≡ with_hessian s (damped_hessian s.hessian s.pose_diagonal d)
 unfolding finish_damping
 damped s d g = rw (is_true (good_damping d) g) refl
 

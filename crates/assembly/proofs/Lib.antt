@@ -1,3 +1,2 @@
--- The system of all blocks, and what holds of those blocks.
+-- Laws of the system of a problem.
 pub mod Blocks
-pub mod Systems

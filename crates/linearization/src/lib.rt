@@ -8,5 +8,5 @@
 mod linearize;
 mod terms;
 
-pub use linearize::{LocalLinearization, linearize_point};
+pub use linearize::{LocalLinearization, NO_BLOCK, linearize_point};
 pub use terms::{PointTerms, point_terms};

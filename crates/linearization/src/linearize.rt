@@ -22,6 +22,17 @@ pub struct LocalLinearization {
     pub squared_residual: f64,
 }
 
+// +0 everywhere: what stands for the block of a refused point
+pub const NO_BLOCK: LocalLinearization = LocalLinearization {
+    pose_hessian: [0.0; 25],
+    cross_hessian: [0.0; 15],
+    point_hessian: [0.0; 9],
+    pose_gradient: [0.0; 5],
+    point_gradient: [0.0; 3],
+    cost: 0.0,
+    squared_residual: 0.0,
+};
+
 // The block of a correspondence. Tests row 4, then row 9 with view 1 or 2.
 #[tactic(auto, unfolding(crate::specs::Linearize::linearize_point))]
 pub fn linearize_point(
