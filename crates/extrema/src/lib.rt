@@ -1,7 +1,7 @@
 // `f64::max` and `f64::min`, with document 01's rule for unlike zeros.
 #![tactic(auto)]
 
-ghost use Rattle.std.specs.Prelude.{[], ◌∷◌, ◌≡◌};
+ghost use Rattle.std.specs.Prelude.{◌≡◌};
 ghost use Rattle.extrema.specs.Extrema as Extrema;
 
 // The larger of the two. A NaN is passed over; of unlike zeros it is +0.
@@ -41,10 +41,4 @@ pub fn largest<const N: usize>(xs: [f64; N]) -> f64
     ensures { result ≡ Extrema.largest xs.entry }
 {
     xs.iter().fold(0.0, |low, x| larger(low, *x))
-}
-
-pub fn largest3(x: f64, y: f64, z: f64) -> f64
-    ensures { result ≡ Extrema.largest (x ∷ y ∷ z ∷ []) }
-{
-    largest([x, y, z])
 }

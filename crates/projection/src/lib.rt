@@ -43,6 +43,7 @@ pub fn pixel_projection(camera: PinholeCamera, observation: [f64; 2], point: [f6
 }
 
 // Whether the coordinates are finite and the depth is above 64ε of the largest absolute value of them.
+#[tactic(auto, unfolding(crate::specs::Projection::in_front))]
 fn in_front(point: [f64; 3]) -> bool
     ensures { result ≡ Projection.in_front point }
 {
@@ -52,7 +53,7 @@ fn in_front(point: [f64; 3]) -> bool
     let x = number::abs(point[0]);
     let y = number::abs(point[1]);
     let z = number::abs(point[2]);
-    let scale = extrema::largest3(x, y, z);
+    let scale = extrema::largest([x, y, z]);
     finite & !(point[2] <= number::EPSILON64 * scale)
 }
 
