@@ -1,9 +1,6 @@
 -- What a record holds, from its numbers. Assumes nothing.
-use Rattle.std.proofs.Common.{◌≡◌, ℕ, zero, suc, ◌+◌, List, map, [], ◌∷◌, refl, sym, ap, ◌∙◌, add-zero, zero-add, arith}
+use Rattle.std.proofs.Common.{◌≡◌, ℕ, ◌+◌, List, [], ◌∷◌, refl, add-zero, arith}
 use Rattle.std.specs.Int.{w64, from_le_bytes}
-use Rattle.std.specs.List.{range_with_len}
-use lib.Ieee.{Float}
-use Rattle.number.specs.Vectors.{tabulate}
 use Rattle.fields.specs.Fields.{bytes}
 use Rattle.run.specs.Run.{word, number_at, numbers_at}
 
@@ -15,16 +12,6 @@ word_read r at =
     let f : at + 4 + 2 ≡ at + 6 = omega arith in
     let g : at + 4 + 3 ≡ at + 7 = omega arith in
     rw (add-zero at, e, f, g) (omega arith)
-
--- a list of the library's, index by index, as `tabulate` has it
-made_from : (f h : ℕ → Float) (a n : ℕ) → ((i : ℕ) → f i ≡ h (a + i)) → map h (range_with_len a n) ≡ tabulate n f
-made_from f h a zero e = refl
-made_from f h a (suc n) e =
-    let tail = made_from (λ i. f (suc i)) h (a + 1) n (λ i. let k : a + suc i ≡ a + 1 + i = omega arith in e (suc i) ∙ ap h k) in
-    rw (tail, e 0, add-zero a) refl
-
-pub made_is : (f : ℕ → Float) (n : ℕ) → map f (range_with_len 0 n) ≡ tabulate n f
-made_is f n = made_from f f 0 n (λ i. ap f (sym (zero-add i)))
 
 -- the five numbers of a camera
 pub camera_read : (r : List ℕ) (at : ℕ) → numbers_at r (at + 3) 5 ≡ number_at r (at + 3) ∷ number_at r (at + 11) ∷ number_at r (at + 19) ∷ number_at r (at + 27) ∷ number_at r (at + 35) ∷ []
