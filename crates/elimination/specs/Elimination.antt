@@ -1,5 +1,5 @@
 -- What a block that factors adds to the equations of the pose once its point is eliminated, by the block's packed inverse: `add` of schur.rs.
-use Rattle.std.specs.Prelude.{ℕ, ◌+◌, ◌*◌, ◌/◌, ◌%◌, List, [], ◌∷◌, Float}
+use Rattle.std.specs.Prelude.{ℕ, ◌+◌, ◌*◌, ◌/◌, ◌%◌, List, Float}
 use Rattle.number.specs.Binary64.{◌⊕◌, ◌⊖◌, ◌⊗◌, half}
 use Rattle.number.specs.Vectors.{◌!◌, tabulate}
 use Rattle.point_block.specs.Factor.{solve}
@@ -10,7 +10,7 @@ dot3 x y = x ! 0 ⊗ y ! 0 ⊕ x ! 1 ⊗ y ! 1 ⊕ x ! 2 ⊗ y ! 2
 
 -- row i of five rows of three
 unfoldable pub cross_row : List Float → ℕ → List Float
-cross_row cross i = cross ! (3 * i) ∷ cross ! (3 * i + 1) ∷ cross ! (3 * i + 2) ∷ []
+cross_row cross i = tabulate 3 (λ j. cross ! (3 * i + j))
 
 -- the inverse times the point's gradient
 unfoldable pub inverse_gradient : List Float → LocalLinearization → List Float

@@ -10,6 +10,7 @@ ghost use Rattle.elimination.specs.Elimination as Elimination;
 
 use linearization::LocalLinearization;
 use point_block::PointBlockFactor;
+use std::array;
 
 // The Hessian of the pose, with the block's less what the point takes up of it
 pub fn reduced_hessian(
@@ -22,11 +23,7 @@ pub fn reduced_hessian(
     let p = local.pose_hessian;
     let c = local.cross_hessian;
     let term = schur_term(factor, c);
-    let mut out = [0.0; 25];
-    for k in 0..25 {
-        out[k] = h[k] + (p[k] - term[k]);
-    }
-    out
+    array::from_fn(|k| h[k] + (p[k] - term[k]))
 }
 
 // The cross Hessian times the inverse times the cross Hessian's transpose
@@ -38,6 +35,7 @@ fn schur_term(factor: PointBlockFactor, c: [f64; 15]) -> [f64; 25]
     let x2 = factor.solve(cross_row(c, 2));
     let x3 = factor.solve(cross_row(c, 3));
     let x4 = factor.solve(cross_row(c, 4));
+    // a row at a time: entry by entry is slower
     let mut out = [0.0; 25];
     for i in 0..5 {
         let row = cross_row(c, i);
@@ -50,6 +48,7 @@ fn schur_term(factor: PointBlockFactor, c: [f64; 15]) -> [f64; 25]
     out
 }
 
+#[tactic(auto, unfolding(crate::specs::Elimination::reduced_gradient))]
 pub fn reduced_gradient(
     g: [f64; 5],
     factor: PointBlockFactor,
@@ -60,13 +59,10 @@ pub fn reduced_gradient(
     let p = local.pose_gradient;
     let c = local.cross_hessian;
     let x = inverse_gradient(factor, local);
-    let mut out = [0.0; 5];
-    for i in 0..5 {
-        out[i] = g[i] + (p[i] - dot3(cross_row(c, i), x));
-    }
-    out
+    array::from_fn(|i| g[i] + (p[i] - dot3(cross_row(c, i), x)))
 }
 
+#[tactic(auto, unfolding(crate::specs::Elimination::point_reduction))]
 pub fn point_reduction(reduction: f64, factor: PointBlockFactor, local: LocalLinearization) -> f64
     ensures { result ≡ Elimination.point_reduction reduction factor.inverse local }
 {
@@ -74,6 +70,7 @@ pub fn point_reduction(reduction: f64, factor: PointBlockFactor, local: LocalLin
     reduction + 0.5 * dot3(gradient, inverse_gradient(factor, local))
 }
 
+#[tactic(auto, unfolding(crate::specs::Elimination::inverse_gradient))]
 fn inverse_gradient(factor: PointBlockFactor, local: LocalLinearization) -> [f64; 3]
     ensures { result ≡ Elimination.inverse_gradient factor.inverse local }
 {
@@ -82,13 +79,15 @@ fn inverse_gradient(factor: PointBlockFactor, local: LocalLinearization) -> [f64
 }
 
 // Row i of five rows of three
+#[tactic(auto, unfolding(crate::specs::Elimination::cross_row))]
 fn cross_row(cross: [f64; 15], i: usize) -> [f64; 3]
     requires { i < 5 }
     ensures { result ≡ Elimination.cross_row cross i }
 {
-    [cross[3 * i], cross[3 * i + 1], cross[3 * i + 2]]
+    array::from_fn(|j| cross[3 * i + j])
 }
 
+#[tactic(auto, unfolding(crate::specs::Elimination::dot3))]
 fn dot3(x: [f64; 3], y: [f64; 3]) -> f64
     ensures { result ≡ Elimination.dot3 x y }
 {

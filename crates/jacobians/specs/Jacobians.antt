@@ -25,14 +25,14 @@ pose_motion_jacobian rotated basis baseline =
     ∷ []
 
 -- an entry of a product of matrices with an inner dimension of 3, the right one of n columns
-abbrev pub entry : ℕ → List Float → List Float → ℕ → ℕ → Float
+unfoldable pub entry : ℕ → List Float → List Float → ℕ → ℕ → Float
 entry n left right row column =
     sum (left ! (3 * row) ⊗ right ! column ∷ left ! (3 * row + 1) ⊗ right ! (n + column) ∷ left ! (3 * row + 2) ⊗ right ! (n + n + column) ∷ [])
 
 -- `multiply_2x3_3x5`
-abbrev pub pose_jacobian : List Float → List Float → List Float
+unfoldable pub pose_jacobian : List Float → List Float → List Float
 pose_jacobian jacobian motion = tabulate 10 (λ k. entry 5 jacobian motion (k / 5) (k % 5))
 
 -- `multiply_2x3_3x3`, then `scale_2x3`
-abbrev pub point_jacobian : List Float → List Float → Float → List Float
+unfoldable pub point_jacobian : List Float → List Float → Float → List Float
 point_jacobian jacobian rotation baseline = tabulate 6 (λ k. entry 3 jacobian rotation (k / 3) (k % 3) ⊗ baseline)

@@ -5,8 +5,10 @@
 // `linearize_point` of kernel/two_view/schur.rs.
 #![tactic(auto)]
 
-ghost use Rattle.std.specs.Prelude.{◌≡◌};
+ghost use Rattle.std.specs.Prelude.{◌≡◌, ◌<◌, ◌/◌};
 ghost use Rattle.jacobians.specs.Jacobians as Jacobians;
+
+use std::array;
 
 // How the turned point moves with the pose: three rows of five
 pub fn pose_motion_jacobian(rotated: [f64; 3], basis: [f64; 6], baseline: f64) -> [f64; 15]
@@ -31,35 +33,32 @@ pub fn pose_motion_jacobian(rotated: [f64; 3], basis: [f64; 6], baseline: f64) -
     ]
 }
 
-// Two rows of the Jacobian times five columns of the motion; each sum begins at −0.
+// Two rows of the Jacobian times five columns of the motion
+#[tactic(auto, unfolding(crate::specs::Jacobians::pose_jacobian))]
 pub fn pose_jacobian(j: [f64; 6], m: [f64; 15]) -> [f64; 10]
     ensures { result ≡ Jacobians.pose_jacobian j m }
 {
-    let mut out = [0.0; 10];
-    for k in 0..10 {
-        let row = 3 * (k / 5);
-        let column = k % 5;
-        out[k] = -0.0
-            + j[row] * m[column]
-            + j[row + 1] * m[5 + column]
-            + j[row + 2] * m[10 + column];
-    }
-    out
+    array::from_fn(|k| entry(j, m, k / 5, k % 5))
 }
 
-// Two rows of the Jacobian times the rotation, scaled by the baseline; each sum begins at −0.
+// Two rows of the Jacobian times the rotation, scaled by the baseline
+#[tactic(auto, unfolding(crate::specs::Jacobians::point_jacobian))]
 pub fn point_jacobian(j: [f64; 6], r: [f64; 9], baseline: f64) -> [f64; 6]
     ensures { result ≡ Jacobians.point_jacobian j r baseline }
 {
-    let mut out = [0.0; 6];
-    for k in 0..6 {
-        let row = 3 * (k / 3);
-        let column = k % 3;
-        let sum = -0.0
-            + j[row] * r[column]
-            + j[row + 1] * r[3 + column]
-            + j[row + 2] * r[6 + column];
-        out[k] = sum * baseline;
-    }
-    out
+    array::from_fn(|k| entry(j, r, k / 3, k % 3) * baseline)
+}
+
+// An entry of a product of matrices with an inner dimension of 3, the right one of N / 3 columns; the
+// sum begins at −0.
+#[tactic(auto, unfolding(crate::specs::Jacobians::entry))]
+fn entry<const N: usize>(left: [f64; 6], right: [f64; N], row: usize, column: usize) -> f64
+    requires row_in { row < 2 }
+    requires column_in { column < N / 3 }
+    ensures { result ≡ Jacobians.entry (N / 3) left right.entry row column }
+{
+    let n = N / 3;
+    -0.0 + left[3 * row] * right[column]
+        + left[3 * row + 1] * right[n + column]
+        + left[3 * row + 2] * right[n + n + column]
 }

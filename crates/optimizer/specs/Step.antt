@@ -1,28 +1,28 @@
 -- `refine_impl` of optimizer.rs from `reduced_system` to `predicted_reduction`, once: document 01, "One whole step".
-use Rattle.std.specs.Prelude.{ℕ, ◌*◌, ◌<◌, ◌≡◌, true, cond, List, eqb, length, Float}
-use Rattle.refusal.specs.Rows as Rows
-use Rattle.refusal.specs.First.{unless, or_else}
-use Rattle.refusal.specs.Refused.{of, none, is_none}
-use Rattle.refusal.specs.declared.Row.{Row}
+use Rattle.std.specs.Prelude.{ℕ, ◌*◌, ◌<◌, ◌≡◌, true, cond, List, eqb, length, Float, Result, Ok, Err, is_ok}
+use Rattle.std.specs.Result.{result_and, result_unwrap_or}
+use Rattle.number.specs.Vectors.{zeros}
+use Rattle.refusal.specs.First.{Checked, unless}
+use Rattle.refusal.specs.declared.Refusal.{Refusal}
+use Rattle.refusal.specs.declared.Refusal.TheVariants.{Lengths, NotFactored}
 use Rattle.correspondences.specs.Problem.{Problem, count}
 use Rattle.checks.specs.Checks as Checks
 use Rattle.solver.specs.Solver.{solve_positive_definite}
-use Rattle.solver.specs.declared.Solved.{Solved}
 use Rattle.reduced_system.specs.Model.{is_valid}
 use Rattle.assembly.specs.Assembly.{reduced_system}
 use Rattle.pose_step.specs.PoseStep.{pose_step}
-use Rattle.point_steps.specs.PointSteps.{step_at, steps_to, sums_to}
-use Rattle.step_result.specs.Results.{finished, not_stepped}
+use Rattle.point_steps.specs.PointSteps.{answer_at, steps_to, sums_to}
+use Rattle.step_result.specs.Results.{finished}
 use Rattle.step_result.specs.declared.StepResult.{StepResult}
 
 -- ---- the step of the pose
 
-abbrev pub solved_of : Problem → Solved
+abbrev pub solved_of : Problem → Result (List Float) Refusal
 solved_of p = solve_positive_definite (reduced_system p).hessian (reduced_system p).gradient
 
 -- the limited step of a valid system that is solved
 unfoldable pub pose_step_of : Problem → List Float
-pose_step_of p = pose_step (solved_of p).x
+pose_step_of p = pose_step (result_unwrap_or (solved_of p) (zeros 5))
 
 -- ---- the whole
 
@@ -32,28 +32,27 @@ stepped p =
     finished (reduced_system p) (pose_step_of p) p.damping (count p) sums.squared sums.damping_norm
 
 -- rows 10 and 11, then the step
-unfoldable pub solved_step : Problem → StepResult
-solved_step p =
-    cond (is_valid (reduced_system p)) (cond (is_none (solved_of p).refusal) (stepped p) (not_stepped (of Rows.not_solved))) (not_stepped (of Rows.not_factored))
+unfoldable pub solved_step : Problem → Result StepResult Refusal
+solved_step p = cond (is_valid (reduced_system p)) (result_and (solved_of p) (Ok (stepped p))) (Err NotFactored)
 
 -- rows 1 to 9, the room's length included
-unfoldable pub refused : Problem → ℕ → Row
-refused p room = or_else (unless (eqb room (3 * count p)) (of Rows.lengths)) (Checks.refused p)
+unfoldable pub check : Problem → ℕ → Checked
+check p room = result_and (unless (eqb room (3 * count p)) Lengths) (Checks.check p)
 
 -- rows 1 to 11, then the step
-unfoldable pub step : Problem → ℕ → StepResult
-step p room = cond (is_none (refused p room)) (solved_step p) (not_stepped (refused p room))
+unfoldable pub step : Problem → ℕ → Result StepResult Refusal
+step p room = result_and (check p room) (solved_step p)
 
--- the room after a call that gives r: all point steps, or what it held before
-unfoldable pub written : Problem → StepResult → List Float → List Float
-written p r room = cond (is_none r.refusal) (steps_to p (pose_step_of p) (count p)) room
+-- the room after a call that answers r: all point steps, or what it held before
+unfoldable pub written : Problem → Result StepResult Refusal → List Float → List Float
+written p r room = cond (is_ok r) (steps_to p (pose_step_of p) (count p)) room
 
 -- "Once the system is valid no point step is refused": whatever the step of the pose
 abbrev pub NoneRefused : Problem → Type 0
-NoneRefused p = is_valid (reduced_system p) ≡ true → (i : ℕ) → i < count p → (s : List Float) → (step_at p s i).refusal ≡ none
+NoneRefused p = is_valid (reduced_system p) ≡ true → (i : ℕ) → i < count p → (s : List Float) → is_ok (answer_at p s i) ≡ true
 
--- what a call promises: its result, the room, and, where rows 1 to 9 let the problem through, that no point step of a valid system is refused
-pub record Done (p : Problem) (room : List Float) (r : StepResult) (after : List Float) : Type 0 where
+-- what a call promises: its answer, the room, and, where rows 1 to 9 let the problem through, that no point step of a valid system is refused
+pub record Done (p : Problem) (room : List Float) (r : Result StepResult Refusal) (after : List Float) : Type 0 where
   pub result : r ≡ step p (length room)
   pub room_after : after ≡ written p r room
-  pub none_refused : is_none (refused p (length room)) ≡ true → NoneRefused p
+  pub none_refused : check p (length room) ≡ Ok tt → NoneRefused p

@@ -5,94 +5,51 @@
 ghost use Rattle.std.specs.Prelude.{◌≡◌, ◌≤◌, ◌*◌, length};
 ghost use Rattle.assembly.specs.Assembly as Assembly;
 ghost use Rattle.checks.specs.Checks as Checks;
-ghost use Rattle.correspondences.specs.Problem as Problem;
+ghost use Rattle.correspondences.specs.Problem as Problems;
 ghost use Rattle.optimizer.specs.Step as Steps;
 
-use correspondences::Rig;
+use correspondences::Problem;
 use reduced_system::ReducedSystem;
-use refusal::Row;
+use refusal::Refusal;
 use step_result::StepResult;
 
 // One step. Tests rows 1 to 11; refused, it leaves the room as it was.
-pub fn step<'a>(
-    points: &[f64],
-    view1: &'a [f64],
-    view2: &'a [f64],
-    inverse_deviations: &[f64],
-    rig: Rig,
-    damping: f64,
-    room: &mut [f64],
-) -> StepResult
-    ensures { Steps.Done (Problem.problem points.now view1.now view2.now inverse_deviations.now rig damping)
-        room.old result room.new }
+pub fn step(problem: &Problem, room: &mut [f64]) -> Result<StepResult, Refusal>
+    ensures { Steps.Done (Problems.of problem.now) room.old result room.new }
 {
     // Where the two lengths differ, one of them is not 3n; where they do not, `reduced_system` tests both.
-    if room.len() != points.len() {
-        return StepResult::not_stepped(Row::of(refusal::LENGTHS));
+    if room.len() != problem.points.len() {
+        return Err(Refusal::Lengths);
     }
-    let reduced = assembly::reduced_system(points, view1, view2, inverse_deviations, rig, damping);
-    let refusal = reduced.refusal;
-    if !refusal.is_none() {
-        return StepResult::not_stepped(refusal);
-    }
-    let system = reduced.system;
-    solved_step(
-        points,
-        view1,
-        view2,
-        inverse_deviations,
-        rig,
-        damping,
-        system,
-        room,
-    )
+    let system = assembly::reduced_system(problem)?;
+    solved_step(problem, system, room)
 }
 
 // Rows 10 and 11, then the step
+#[tactic(auto, unfolding(crate::specs::Step::solved_step, crate::specs::Step::stepped, crate::specs::Step::pose_step_of, crate::specs::Step::written))]
 fn solved_step(
-    points: &[f64],
-    view1: &[f64],
-    view2: &[f64],
-    inverse_deviations: &[f64],
-    rig: Rig,
-    damping: f64,
+    problem: &Problem,
     system: ReducedSystem,
     room: &mut [f64],
-) -> StepResult
-    requires { (length inverse_deviations.now ≤ Checks.max_points) × (length room.old ≡ 3 * length inverse_deviations.now)
-        × (system ≡ Assembly.reduced_system (Problem.problem points.now view1.now view2.now inverse_deviations.now rig damping)) }
-    ensures { (result ≡ Steps.solved_step (Problem.problem points.now view1.now view2.now inverse_deviations.now rig damping))
-        × (room.new ≡ Steps.written (Problem.problem points.now view1.now view2.now inverse_deviations.now rig damping) result room.old) }
+) -> Result<StepResult, Refusal>
+    requires few_points { Problems.count (Problems.of problem.now) ≤ Checks.max_points }
+    requires room { length room.old ≡ 3 * Problems.count (Problems.of problem.now) }
+    requires system { system ≡ Assembly.reduced_system (Problems.of problem.now) }
+    ensures answer { result ≡ Steps.solved_step (Problems.of problem.now) }
+    ensures room { room.new ≡ Steps.written (Problems.of problem.now) result room.old }
 {
-    let n = inverse_deviations.len() as u32;
     if !system.is_valid() {
-        return StepResult::not_stepped(Row::of(refusal::NOT_FACTORED));
+        return Err(Refusal::NotFactored);
     }
-    let hessian = system.hessian;
-    let gradient = system.gradient;
-    let solved = solver::solve_positive_definite(hessian, gradient);
-    let not_solved = solved.refusal;
-    if !not_solved.is_none() {
-        return StepResult::not_stepped(Row::of(refusal::NOT_SOLVED));
-    }
-    let x = solved.x;
+    let x = solver::solve_positive_definite(system.hessian, system.gradient)?;
     let pose_step = pose_step::pose_step(x);
-    let sums = point_steps::write_steps(
-        points,
-        view1,
-        view2,
-        inverse_deviations,
-        rig,
-        damping,
-        pose_step,
-        room,
-    );
-    StepResult::finished(
+    let sums = point_steps::write_steps(problem, pose_step, room);
+    Ok(StepResult::finished(
         system,
         pose_step,
-        damping,
-        n,
+        problem.damping,
+        problem.count() as u32,
         sums.squared,
         sums.damping_norm,
-    )
+    ))
 }

@@ -105,10 +105,11 @@ impl PointBlockFactor {
 fn infinity_norm(m: [f64; 9]) -> f64
     ensures { result ≡ Condition.infinity_norm m }
 {
-    let x = row_norm(m[0], m[1], m[2]);
-    let y = row_norm(m[3], m[4], m[5]);
-    let z = row_norm(m[6], m[7], m[8]);
-    extrema::largest3(x, y, z)
+    extrema::largest([
+        row_norm(m[0], m[1], m[2]),
+        row_norm(m[3], m[4], m[5]),
+        row_norm(m[6], m[7], m[8]),
+    ])
 }
 
 fn row_norm(x: f64, y: f64, z: f64) -> f64

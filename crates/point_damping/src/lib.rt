@@ -49,7 +49,7 @@ pub fn floored_diagonal(m: [f64; 9]) -> [f64; 3]
 fn largest_diagonal(m: [f64; 9]) -> f64
     ensures { result ≡ Damping.largest_diagonal m }
 {
-    extrema::largest3(m[0], m[4], m[8])
+    extrema::largest([m[0], m[4], m[8]])
 }
 
 // The floored diagonal, from the largest entry, which is `scale`.

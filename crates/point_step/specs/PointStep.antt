@@ -1,5 +1,5 @@
 -- `point_step_with_damping_norm` of schur.rs: how a point moves with a step of the pose.
-use Rattle.std.specs.Prelude.{ℕ, ◌+◌, cond, List, [], ◌∷◌, Float, Result, Ok, Err}
+use Rattle.std.specs.Prelude.{ℕ, ◌+◌, ◌*◌, cond, List, Float, Result, Ok, Err}
 use Rattle.std.specs.Float.Ieee.{neg}
 use Rattle.number.specs.Binary64.{◌⊕◌, ◌⊗◌}
 use Rattle.number.specs.Vectors.{◌!◌, sum, tabulate}
@@ -16,7 +16,7 @@ use Rattle.point_step.specs.declared.PointStep.{PointStep}
 
 -- column i of five rows of three
 unfoldable pub cross_column : List Float → ℕ → List Float
-cross_column cross i = cross ! i ∷ cross ! (3 + i) ∷ cross ! (6 + i) ∷ cross ! (9 + i) ∷ cross ! (12 + i) ∷ []
+cross_column cross i = tabulate 5 (λ j. cross ! (3 * j + i))
 
 -- the point's gradient with what the pose's step adds to it
 unfoldable pub right_hand_side : PointTerms → List Float → List Float

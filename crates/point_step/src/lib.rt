@@ -10,6 +10,7 @@ ghost use Rattle.point_step.specs.PointStep as Steps;
 use linearization::{LocalLinearization, PointTerms};
 use point_block::PointBlockFactor;
 use refusal::Refusal;
+use std::array;
 
 // A point's step and its damping norm
 #[derive(Clone, Copy)]
@@ -69,20 +70,17 @@ fn step_of(factor: PointBlockFactor, terms: PointTerms, pose_step: [f64; 5]) -> 
     ensures { result ≡ Steps.step_of factor.inverse terms pose_step }
 {
     let x = factor.solve(right_hand_side(terms, pose_step));
-    [-x[0], -x[1], -x[2]]
+    x.map(|v| -v)
 }
 
 // The point's gradient with what the pose's step adds to it
+#[tactic(auto, unfolding(crate::specs::PointStep::right_hand_side))]
 fn right_hand_side(terms: PointTerms, pose_step: [f64; 5]) -> [f64; 3]
     ensures { result ≡ Steps.right_hand_side terms pose_step }
 {
     let g = terms.point_gradient;
     let c = terms.cross_hessian;
-    let mut out = [0.0; 3];
-    for i in 0..3 {
-        out[i] = g[i] + pose_model::dot5(cross_column(c, i), pose_step);
-    }
-    out
+    array::from_fn(|i| g[i] + pose_model::dot5(cross_column(c, i), pose_step))
 }
 
 // Column i of five rows of three
@@ -91,13 +89,7 @@ fn cross_column(cross: [f64; 15], i: usize) -> [f64; 5]
     requires { i < 3 }
     ensures { result ≡ Steps.cross_column cross i }
 {
-    [
-        cross[i],
-        cross[3 + i],
-        cross[6 + i],
-        cross[9 + i],
-        cross[12 + i],
-    ]
+    array::from_fn(|j| cross[3 * j + i])
 }
 
 #[tactic(auto, unfolding(crate::specs::PointStep::damping_norm))]

@@ -1,30 +1,31 @@
 -- The pass over all points that fills the room with their steps, and its sums. Assumes nothing.
 use mathlib.Core.Path.{◌≡◌, refl, sym, ap, ◌∙◌}
 use mathlib.Core.Bool.{Bool, true, false, cond}
-use mathlib.Core.List.{List, [], ◌∷◌, ◌++◌, append-nil}
+use mathlib.Core.List.{List, [], ◌∷◌, ◌++◌}
 use Prim.Native.Nat.{ℕ, zero, suc, ◌+◌, ◌*◌, ◌≤◌}
 use native.Mathlib.Numerals.{add-one}
 use native.Mathlib.Omega.{arith}
 use lib.ListN.{length, take, drop, set, length-set, length-append}
-use lib.Seq.{sets-eq, take_at, drop-append-add, drop-drop, drop-length}
+use lib.Seq.{sets-eq, take_at, drop-append-add, drop-drop}
 use lib.Ieee.{Float}
 use Rattle.number.specs.Binary64.{◌⊕◌}
 use Rattle.number.specs.Vectors.{◌!◌}
-use Rattle.refusal.specs.Refused.{is_none}
-use Rattle.point_damping.specs.Damping.{good_damping}
+use Rattle.std.specs.Prelude.{Result, Ok, Err}
+use Rattle.std.specs.Result.{result_unwrap_or}
+use Rattle.refusal.specs.declared.Refusal.{Refusal}
+use Rattle.refusal.specs.declared.Refusal.TheVariants.{Damping}
+use Rattle.point_damping.specs.Damping.{good_damping, damping_diagonal}
+use Rattle.point_block.specs.declared.PointBlockFactor.{PointBlockFactor}
+use Rattle.linearization.specs.declared.terms.PointTerms.{PointTerms}
 use Rattle.point_block.specs.Lone.{factor}
 use Rattle.linearization.specs.Linearize.{point_terms}
-use Rattle.point_step.specs.PointStep.{step_of, stepped, not_stepped, step_of_terms, point_step}
+use Rattle.point_step.specs.PointStep.{step_of, damping_norm, stepped, step_of_terms, point_step}
 use Rattle.linearization.specs.declared.linearize.LocalLinearization.{LocalLinearization}
 use Rattle.views.specs.declared.Correspondence.{Correspondence}
 use Rattle.point_step.specs.declared.PointStep.{PointStep}
-use Rattle.correspondences.specs.Problem.{Problem, count, correspondence_at}
+use Rattle.correspondences.specs.Problem.{Problem, correspondence_at}
 use Rattle.assembly.specs.Assembly.{block_of}
-use Rattle.point_steps.specs.PointSteps.{point_step_of, step_at, steps_to, squared_norm, no_steps, sums_to, Fits, Wrote}
-use Rattle.point_steps.specs.declared.Sums.{Sums}
-
-abbrev correspondence : Problem → ℕ → Correspondence
-correspondence p i = correspondence_at p.points p.view1 p.view2 p.deviations i
+use Rattle.point_steps.specs.PointSteps.{point_step_of, still, step_at, steps_to, squared_norm, no_steps, sums_to}
 
 three : (x : List Float) → length x ≡ 3 → x ! 0 ∷ x ! 1 ∷ x ! 2 ∷ [] ≡ x
 three [] e = absurd (omega arith)
@@ -33,26 +34,37 @@ three (a ∷ b ∷ []) e = absurd (omega arith)
 three (a ∷ b ∷ c ∷ []) e = refl
 three (a ∷ b ∷ c ∷ d ∷ l) e = absurd (omega arith)
 
-step_length : (b : LocalLinearization) (d : Float) (s : List Float) → length (point_step b d s).step ≡ 3
-unfolding point_step step_of_terms point_terms stepped step_of not_stepped
-step_length b d s = by (good_damping d) (is_none (factor b.point_hessian d).refusal)
+step_length : (b : LocalLinearization) (d : Float) (s : List Float) → length (result_unwrap_or (point_step b d s) still).step ≡ 3
+unfolding point_step step_of_terms point_terms stepped step_of
+step_length b d s = by (good_damping d) (factor b.point_hessian d) (damping_diagonal b.point_hessian)
   where
-    by : (x y : Bool) → length (cond x (cond y (stepped (factor b.point_hessian d).inverse (point_terms b) s) (not_stepped 10)) (not_stepped 3)).step ≡ 3
-    by true true = refl
-    by true false = refl
-    by false y = refl
+    t : PointTerms
+    t = record { cross_hessian = b.cross_hessian; point_hessian = b.point_hessian; point_gradient = b.point_gradient }
+
+    moved : PointBlockFactor → Result (List Float) Refusal → Result PointStep Refusal
+    moved f r =
+        let step = step_of f.inverse t s in
+        elim r [ Ok d ↦ Ok (record { step = step; damping_norm = damping_norm d step }) | Err e ↦ Err e ]
+
+    by : (x : Bool) (f : Result PointBlockFactor Refusal) (r : Result (List Float) Refusal)
+        → length (result_unwrap_or (cond x (elim f [ Ok g ↦ moved g r | Err e ↦ Err e ]) (Err Damping)) still).step ≡ 3
+    by true (Ok f) (Ok r) = refl
+    by true (Ok f) (Err e) = refl
+    by true (Err e) r = refl
+    by false f r = refl
 
 pub room_length : (room : List Float) (i : ℕ) (x : List Float) → length (set (set (set room (3 * i) (x ! 0)) (3 * i + 1) (x ! 1)) (3 * i + 2) (x ! 2)) ≡ length room
 room_length room i x =
     length-set (set (set room (3 * i) (x ! 0)) (3 * i + 1) (x ! 1)) (3 * i + 2) (x ! 2) ∙ length-set (set room (3 * i) (x ! 0)) (3 * i + 1) (x ! 1) ∙ length-set room (3 * i) (x ! 0)
 
 module _ (p : Problem) (s : List Float) where
-  pub stepped_at : (i : ℕ) (d : Correspondence) (x : PointStep) → d ≡ correspondence p i → x ≡ point_step_of p.rig d p.damping s → x ≡ step_at p s i
-  stepped_at i d x e f = f ∙ ap (λ (t : Correspondence). point_step_of p.rig t p.damping s) e
+  pub stepped_at : (i : ℕ) (d : Correspondence) (r : Result PointStep Refusal) (x : PointStep) → d ≡ correspondence_at p i → r ≡ point_step_of p.rig d p.damping s
+      → x ≡ result_unwrap_or r still → x ≡ step_at p s i
+  stepped_at i d r x e f g = g ∙ ap (λ (t : Result PointStep Refusal). result_unwrap_or t still) (f ∙ ap (λ (t : Correspondence). point_step_of p.rig t p.damping s) e)
 
   step_three : (i : ℕ) → length (step_at p s i).step ≡ 3
   unfolding point_step_of
-  step_three i = step_length (block_of p.rig (correspondence p i)) p.damping s
+  step_three i = step_length (block_of p.rig (correspondence_at p i)) p.damping s
 
   pub steps_length : (n : ℕ) → length (steps_to p s n) ≡ 3 * n
   unfolding steps_to
@@ -90,14 +102,6 @@ module _ (p : Problem) (s : List Float) where
       ∙ ap (λ (j : ℕ). drop j room₀) m)
       ∙ ap (λ (j : ℕ). steps_to p s j ++ drop (3 * (i + 1)) room₀) (sym (add-one i))
 
-  pub room_full : (room₀ room : List Float) (i n : ℕ) → Filled room₀ i room → i ≡ n → length room₀ ≡ 3 * n → room ≡ steps_to p s n
-  room_full room₀ room i n e k h =
-      e
-      ∙ ap (λ (j : ℕ). steps_to p s j ++ drop (3 * j) room₀) k
-      ∙ ap (λ (j : ℕ). steps_to p s n ++ drop j room₀) (sym h)
-      ∙ ap (λ (t : List Float). steps_to p s n ++ t) (drop-length room₀)
-      ∙ append-nil (steps_to p s n)
-
   -- ---- their sums
 
   pub sums_none : sums_to p s 0 ≡ no_steps
@@ -111,14 +115,3 @@ module _ (p : Problem) (s : List Float) where
   pub norm_next : (i : ℕ) (q : Float) (x : PointStep) → q ≡ (sums_to p s i).damping_norm → x ≡ step_at p s i → q ⊕ x.damping_norm ≡ (sums_to p s (i + 1)).damping_norm
   unfolding sums_to
   norm_next i q x e f = rw (add-one i, f, e) refl
-
-  pub both_sums : (i n : ℕ) (q m : Float) → i ≡ n → q ≡ (sums_to p s i).squared → m ≡ (sums_to p s i).damping_norm → record { squared = q; damping_norm = m } ≡ sums_to p s n
-  both_sums i n q m k e f = rw (e, f) (ap (λ (j : ℕ). sums_to p s j) k)
-
-  -- ---- a call, whatever the room
-
-  pub all_written : (room after : List Float) (r : Sums) → Fits (count p) room → (r ≡ sums_to p s (count p)) × (after ≡ steps_to p s (count p)) → Wrote p s room r after
-  all_written room after r h e = record { fits = λ k. e; does_not_fit = λ k. absurd (k h) }
-
-  pub not_written : (room : List Float) (r : Sums) → (Fits (count p) room → ⊥) → r ≡ no_steps → Wrote p s room r room
-  not_written room r h e = record { fits = λ k. absurd (h k); does_not_fit = λ k. (e, refl) }

@@ -1,22 +1,31 @@
 -- The steps of all points with a step of the pose, and their sums as `candidate_cost` of optimizer.rs has them, from +0.
-use Rattle.std.specs.Prelude.{ℕ, zero, suc, ◌*◌, ◌≤◌, ◌≡◌, List, [], ◌∷◌, ◌++◌, length, Float}
+use Rattle.std.specs.Prelude.{ℕ, zero, suc, ◌*◌, ◌≤◌, ◌≡◌, List, [], ◌∷◌, ◌++◌, length, Float, Result}
+use Rattle.std.specs.Result.{result_unwrap_or}
+use Rattle.refusal.specs.declared.Refusal.{Refusal}
 use Rattle.number.specs.Binary64.{◌⊕◌, zero as zero·}
-use Rattle.number.specs.Vectors.{◌!◌, sum}
+use Rattle.number.specs.Vectors.{◌!◌, sum, zeros}
 use Rattle.views.specs.declared.Correspondence.{Correspondence}
 use Rattle.correspondences.specs.Problem.{Problem, count, correspondence_at}
 use Rattle.checks.specs.Checks as Checks
-use Rattle.correspondences.specs.declared.Rig.{Rig}
+use Rattle.views.specs.declared.Rig.{Rig}
 use Rattle.assembly.specs.Assembly.{block_of}
 use Rattle.point_step.specs.PointStep.{point_step}
 use Rattle.point_step.specs.declared.PointStep.{PointStep}
 use Rattle.pose_step.specs.PoseStep.{squared}
 use Rattle.point_steps.specs.declared.Sums.{Sums}
 
-unfoldable pub point_step_of : Rig → Correspondence → Float → List Float → PointStep
+unfoldable pub point_step_of : Rig → Correspondence → Float → List Float → Result PointStep Refusal
 point_step_of rig correspondence damping s = point_step (block_of rig correspondence) damping s
 
+-- what the step of a point answers, and how the point moves: not at all, where it is refused
+abbrev pub answer_at : Problem → List Float → ℕ → Result PointStep Refusal
+answer_at p s i = point_step_of p.rig (correspondence_at p i) p.damping s
+
+abbrev pub still : PointStep
+still = record { step = zeros 3; damping_norm = zero· }
+
 abbrev pub step_at : Problem → List Float → ℕ → PointStep
-step_at p s i = point_step_of p.rig (correspondence_at p.points p.view1 p.view2 p.deviations i) p.damping s
+step_at p s i = result_unwrap_or (answer_at p s i) still
 
 unfoldable pub steps_to : Problem → List Float → ℕ → List Float
 steps_to p s zero = []

@@ -4,16 +4,23 @@
 // How all points move with a step of the pose: the steps in the lent room, and their sums, as in kernel/two_view/optimizer.rs.
 #![tactic(auto)]
 
-ghost use Rattle.std.specs.Prelude.{◌≡◌, length};
+ghost use Rattle.std.specs.Prelude.{◌≡◌};
 ghost use Rattle.assembly.specs.Assembly as Assembly;
-ghost use Rattle.correspondences.specs.Problem as Problem;
+ghost use Rattle.correspondences.specs.Problem as Problems;
 ghost use Rattle.linearization.specs.Linearize as Linearize;
 ghost use Rattle.point_steps.specs.PointSteps as Steps;
 
-use correspondences::Rig;
+use correspondences::{Problem, Rig};
 use linearization::PointTerms;
 use point_step::PointStep;
+use refusal::Refusal;
 use views::Correspondence;
+
+// A point that stays where it is: what stands for a refused step. A valid system refuses none.
+const STILL: PointStep = PointStep {
+    step: [0.0; 3],
+    damping_norm: 0.0,
+};
 
 // The squared lengths of the point steps and their damping norms, summed
 #[derive(Clone, Copy)]
@@ -22,73 +29,37 @@ pub struct Sums {
     pub damping_norm: f64,
 }
 
+const NO_STEPS: Sums = Sums {
+    squared: 0.0,
+    damping_norm: 0.0,
+};
+
 // Writes each point's step into the room, where there are at most as many points as row 2 allows, and the room has three
 // numbers a point; else it stays as it was, and the sums are +0.
-pub fn write_steps(
-    points: &[f64],
-    view1: &[f64],
-    view2: &[f64],
-    inverse_deviations: &[f64],
-    rig: Rig,
-    damping: f64,
-    pose_step: [f64; 5],
-    room: &mut [f64],
-) -> Sums
-    ensures { Steps.Wrote (Problem.problem points.now view1.now view2.now inverse_deviations.now rig damping)
-        pose_step room.old result room.new }
+pub fn write_steps(problem: &Problem, pose_step: [f64; 5], room: &mut [f64]) -> Sums
+    ensures { Steps.Wrote (Problems.of problem.now) pose_step room.old result room.new }
 {
-    if inverse_deviations.len() > checks::MAXIMUM_POINTS {
-        return no_steps();
+    if problem.count() > checks::MAXIMUM_POINTS {
+        return NO_STEPS;
     }
-    if room.len() != 3 * inverse_deviations.len() {
-        return no_steps();
+    if room.len() != 3 * problem.count() {
+        return NO_STEPS;
     }
-    fill(
-        points,
-        view1,
-        view2,
-        inverse_deviations,
-        rig,
-        damping,
-        pose_step,
-        room,
-    )
+    fill(problem, pose_step, room)
 }
 
-fn no_steps() -> Sums
-    ensures { result ≡ Steps.no_steps }
-{
-    Sums {
-        squared: 0.0,
-        damping_norm: 0.0,
-    }
-}
-
-fn fill(
-    points: &[f64],
-    view1: &[f64],
-    view2: &[f64],
-    inverse_deviations: &[f64],
-    rig: Rig,
-    damping: f64,
-    pose_step: [f64; 5],
-    room: &mut [f64],
-) -> Sums
-    requires { Steps.Fits (length inverse_deviations.now) room.old }
-    ensures { (result ≡ Steps.sums_to (Problem.problem points.now view1.now view2.now inverse_deviations.now rig damping) pose_step (length inverse_deviations.now))
-        × (room.new ≡ Steps.steps_to (Problem.problem points.now view1.now view2.now inverse_deviations.now rig damping) pose_step (length inverse_deviations.now)) }
+fn fill(problem: &Problem, pose_step: [f64; 5], room: &mut [f64]) -> Sums
+    requires { Steps.Fits (Problems.count (Problems.of problem.now)) room.old }
+    ensures sums { result ≡ Steps.sums_to (Problems.of problem.now) pose_step (Problems.count (Problems.of problem.now)) }
+    ensures room { room.new ≡ Steps.steps_to (Problems.of problem.now) pose_step (Problems.count (Problems.of problem.now)) }
 {
     let mut squared = 0.0;
     let mut damping_norm = 0.0;
-    for i in 0..inverse_deviations.len() {
-        let correspondence = correspondences::correspondence_at(
-            points,
-            view1,
-            view2,
-            inverse_deviations,
-            i as u32,
+    for i in 0..problem.count() {
+        let correspondence = problem.correspondence_at(i as u32);
+        let moved = point_step(problem.rig, correspondence, problem.damping, pose_step).unwrap_or(
+            STILL,
         );
-        let moved = point_step(rig, correspondence, damping, pose_step);
         let s = moved.step;
         room[3 * i] = s[0];
         room[3 * i + 1] = s[1];
@@ -103,25 +74,27 @@ fn fill(
 }
 
 // The step of one correspondence
+#[tactic(auto, unfolding(crate::specs::PointSteps::point_step_of, point_step::specs::PointStep::point_step))]
 fn point_step(
     rig: Rig,
     correspondence: Correspondence,
     damping: f64,
     pose_step: [f64; 5],
-) -> PointStep
+) -> Result<PointStep, Refusal>
     ensures { result ≡ Steps.point_step_of rig correspondence damping pose_step }
 {
     point_step::step_of_terms(point_terms_of(rig, correspondence), damping, pose_step)
 }
 
 // What that step needs of the correspondence's block
+#[tactic(auto, unfolding(assembly::specs::Assembly::block_of, linearization::specs::Linearize::no_block))]
 fn point_terms_of(rig: Rig, correspondence: Correspondence) -> PointTerms
     ensures { result ≡ Linearize.point_terms (Assembly.block_of rig correspondence) }
 {
-    let camera1 = rig.camera1;
-    let camera2 = rig.camera2;
-    let pose = rig.pose;
-    linearization::point_terms(camera1, camera2, pose, correspondence)
+    match linearization::point_terms(rig, correspondence) {
+        Ok(terms) => terms,
+        Err(_) => PointTerms::from(linearization::NO_BLOCK),
+    }
 }
 
 // The sum begins at −0.

@@ -11,6 +11,7 @@ ghost use Rattle.pose_step.specs.PoseStep as PoseStep;
 const MAX_LENGTH: f64 = 0.5;
 
 // `limit_pose_step` at 0.5: where both lengths are NaN the vector passes through.
+#[tactic(auto, unfolding(crate::specs::PoseStep::limit_pose_step))]
 pub fn limit_pose_step(x: [f64; 5]) -> [f64; 5]
     ensures { result ≡ PoseStep.limit_pose_step x }
 {
@@ -24,7 +25,7 @@ pub fn limit_pose_step(x: [f64; 5]) -> [f64; 5]
 fn scaled(x: [f64; 5], by: f64) -> [f64; 5]
     ensures { result ≡ PoseStep.scaled x by }
 {
-    [x[0] * by, x[1] * by, x[2] * by, x[3] * by, x[4] * by]
+    x.map(|v| v * by)
 }
 
 // The longer of the rotation's and the translation's part; each sum begins at −0.
@@ -37,8 +38,9 @@ fn step_length(x: [f64; 5]) -> f64
 }
 
 // The limited step of a solution
+#[tactic(auto, unfolding(crate::specs::PoseStep::pose_step))]
 pub fn pose_step(x: [f64; 5]) -> [f64; 5]
     ensures { result ≡ PoseStep.pose_step x }
 {
-    limit_pose_step([-x[0], -x[1], -x[2], -x[3], -x[4]])
+    limit_pose_step(x.map(|v| -v))
 }

@@ -55,7 +55,7 @@ fn in_front(point: [f64; 3]) -> bool
     let x = number::abs(point[0]);
     let y = number::abs(point[1]);
     let z = number::abs(point[2]);
-    let scale = extrema::largest3(x, y, z);
+    let scale = extrema::largest([x, y, z]);
     finite & !(point[2] <= number::EPSILON64 * scale)
 }
 

@@ -1,12 +1,12 @@
 -- What the calls of the whole step and of the limit of a pose step answer, and what the memory that they may write holds afterwards: the result where nothing is refused, and what it held before otherwise.
-use Rattle.std.specs.Prelude.{ℕ, ◌≡◌, ◌&&◌, cond, List, [], ◌∷◌, length, Float}
-use Rattle.refusal.specs.Refused.{none}
+use Rattle.std.specs.Prelude.{ℕ, ◌≡◌, ◌&&◌, cond, List, [], ◌∷◌, length, Float, Ok}
+use Rattle.refusal.specs.Refused.{map_ok}
 use Rattle.correspondences.specs.Problem.{Problem}
 use Rattle.pose_step.specs.PoseStep as PoseStep
 use Rattle.optimizer.specs.Step as Step
 use Rattle.step_result.specs.declared.StepResult.{StepResult}
 use Rattle.number.specs.Vectors.{◌!◌}
-use Rattle.answers.specs.Answers.{code, lengths_code, stored, Answer, answer, long}
+use Rattle.answers.specs.Answers.{number, lengths_code, stored, Answer, answer, long}
 
 -- what it gives, the room apart: twelve numbers and the weak count
 abbrev pub step_numbers : StepResult → List Float
@@ -35,8 +35,8 @@ unfoldable pub step : Problem → List Float → List Float → List Float → L
 step p x room out weak =
     let r = Step.step p (length room) in
     cond (long x 29 && long out 12 && long weak 1)
-    (record { number = code r.refusal; room = Step.written p r room; out = stored r.refusal (step_numbers r) out; weak = stored r.refusal (step_count r) weak })
+    (record { number = number r; room = Step.written p r room; out = stored (map_ok step_numbers r) out; weak = stored (map_ok step_count r) weak })
     (record { number = lengths_code; room = room; out = out; weak = weak })
 
 unfoldable pub limit_pose_step : List Float → List Float → Answer Float
-limit_pose_step x out = answer (long x 5 && long out 5) none (PoseStep.limit_pose_step x) out
+limit_pose_step x out = answer (long x 5 && long out 5) (Ok (PoseStep.limit_pose_step x)) out

@@ -3,15 +3,18 @@
 #![tactic(auto)]
 
 ghost use Rattle.std.specs.Prelude.{◌≡◌, length};
-ghost use Rattle.correspondences.specs.Problem as Problem;
+ghost use Rattle.correspondences.specs.Problem as Problems;
+ghost use Rattle.refusal.specs.Refused.{map_ok};
 ghost use Rattle.answers.specs.Answers as Answers;
 ghost use Rattle.flat.specs.Flat as Flat;
 ghost use Rattle.step_calls.specs.Calls as Calls;
 
-use refusal::Row;
+use correspondences::Problem;
+use refusal::Refusal;
 use step_result::StepResult;
 
 // For n points: points and room 3n, views 2n each, inverse deviations n; rig: 29; out: 12; weak: 1
+#[tactic(auto, unfolding(crate::specs::Calls::step))]
 pub fn step<'a>(
     points: &[f64],
     view1: &'a [f64],
@@ -24,43 +27,48 @@ pub fn step<'a>(
     weak: &mut [u16],
 ) -> u64
     ensures { Calls.Stepped result room.new out.new weak.new
-        (Calls.step (Problem.problem points.now view1.now view2.now inverse_deviations.now (Flat.rig rig.now) damping)
+        (Calls.step (Problems.problem points.now view1.now view2.now inverse_deviations.now (Flat.rig rig.now) damping)
         rig.now room.old out.old weak.old) }
 {
     if !((rig.len() == 29) & (out.len() == 12) & (weak.len() == 1)) {
         return answers::lengths();
     }
-    let r = flat::rig(rig);
-    let done = optimizer::step(points, view1, view2, inverse_deviations, r, damping, room);
-    answer(done, out, weak)
+    let problem = Problem {
+        points,
+        view1,
+        view2,
+        inverse_deviations,
+        rig: flat::rig(rig),
+        damping,
+    };
+    answer(optimizer::step(&problem, room), out, weak)
 }
 
 // x: 5; out: 5
+#[tactic(auto, unfolding(crate::specs::Calls::limit_pose_step, answers::specs::Answers::answer))]
 pub fn limit_pose_step(x: &[f64], out: &mut [f64]) -> u64
     ensures { Answers.Answered result out.new (Calls.limit_pose_step x.now out.old) }
 {
     if !((x.len() == 5) & (out.len() == 5)) {
         return answers::lengths();
     }
-    let values = pose_step::limit_pose_step(slices::vector5(x, 0));
-    answers::answer(Row::none(), &values, out)
+    answers::answer(Ok(pose_step::limit_pose_step(slices::vector(x, 0))), out)
 }
 
-// Stores numbers and weak count where nothing was refused, and answers the refusal's code.
-fn answer(done: StepResult, out: &mut [f64], weak: &mut [u16]) -> u64
+// Stores numbers and weak count where nothing was refused, and answers 0 or the refusal's code.
+fn answer(done: Result<StepResult, Refusal>, out: &mut [f64], weak: &mut [u16]) -> u64
     requires { (length out.old ≡ 12) × (length weak.old ≡ 1) }
-    ensures { (result ≡ Answers.code done.refusal)
-        × (out.new ≡ Answers.stored done.refusal (Calls.step_numbers done) out.old)
-        × (weak.new ≡ Answers.stored done.refusal (Calls.step_count done) weak.old) }
+    ensures number { result ≡ Answers.number done }
+    ensures numbers { out.new ≡ Answers.stored (map_ok Calls.step_numbers done) out.old }
+    ensures count { weak.new ≡ Answers.stored (map_ok Calls.step_count done) weak.old }
 {
-    let refusal = done.refusal;
-    if !refusal.is_none() {
-        return answers::code(refusal);
-    }
-    let values = step_numbers(done);
-    answers::store(&values, out);
-    weak[0] = done.weak_point_count;
-    answers::code(refusal)
+    let step = match done {
+        Ok(step) => step,
+        Err(refusal) => return answers::code(refusal),
+    };
+    answers::store(&step_numbers(step), out);
+    weak.copy_from_slice(&[step.weak_point_count]);
+    0
 }
 
 fn step_numbers(s: StepResult) -> [f64; 12]

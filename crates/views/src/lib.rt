@@ -11,6 +11,7 @@ ghost use Rattle.views.specs.Views as Views;
 
 use projection::{PinholeCamera, Projected};
 use refusal::{Refusal, View};
+use std::array;
 
 // How the second camera sits: the rotation by rows, the translation, two vectors that span the
 // translation's tangent plane, and the baseline
@@ -162,14 +163,10 @@ fn second_rows(second: Projected, rotated: [f64; 3], pose: Pose, weight: f64) ->
 fn first_view(residual: [f64; 2], j: [f64; 6], baseline: f64, weight: f64) -> View1
     ensures { result ≡ Views.first_view residual j baseline weight }
 {
-    let mut point = j;
-    for x in point.iter_mut() {
-        *x = weight * (*x * baseline);
-    }
     View1 {
         residual: weigh(residual, weight),
         pose: weight * 0.0,
-        point,
+        point: array::from_fn(|i| weight * (j[i] * baseline)),
     }
 }
 

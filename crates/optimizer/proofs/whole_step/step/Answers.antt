@@ -1,26 +1,20 @@
--- `optimizer::whole_step::step` meets its contract. Assumes nothing.
+use Rattle.std.proofs.Common.{rules, sym, ◌∙◌}
+use Rattle.correspondences.specs.Problem.{of}
 use Rattle.optimizer.proofs.Whole.{wrong_room, checks_refused, fits, done}
-use Rattle.correspondences.specs.Problem.{problem}
-use mathlib.Core.Path.{ap}
-use mathlib.Core.Bool.{not}
 use Rattle.optimizer.proofs.whole_step.step.Goals as goal
 
-pub returns-then-room-points : goal.returns-then-room-points
-returns-then-room-points c =
-    let a = c.args in
-    wrong_room (problem a.points.now a.view1.now a.view2.now a.inverse_deviations.now a.rig a.damping) a.room.now _ c.if-room-points.true _ c.of.ensures c.not_stepped.ensures
+pub returns-then-room-problem : goal.returns-then-room-problem
+returns-then-room-problem c = wrong_room (of c.args.problem.now) _ c.if-room-problem.true
 
-pub returns-then-not-is_none : goal.returns-then-not-is_none
-returns-then-not-is_none c =
-    let a = c.args in
-    checks_refused (problem a.points.now a.view1.now a.view2.now a.inverse_deviations.now a.rig a.damping) a.room.now _ c.if-room-points.false _ c.reduced_system-reduced.ensures _ c.is_none.ensures (ap not c.if-not-is_none.true) c.not_stepped-then-not-is_none.ensures
+pub returns-in_err-system : goal.returns-in_err-system
+returns-in_err-system c =
+    checks_refused (of c.args.problem.now) c.args.room.now c.if-room-problem.false _ _ (sym c.reduced_system.ensures ∙ c.in_err-system.was) (search rules)
 
 pub solved_step-requires : goal.solved_step-requires
 solved_step-requires c =
-    let a = c.args in
-    fits (problem a.points.now a.view1.now a.view2.now a.inverse_deviations.now a.rig a.damping) a.room.now c.if-room-points.false _ c.reduced_system-reduced.ensures _ c.is_none.ensures (ap not c.if-not-is_none.false)
+    let f = fits (of c.args.problem.now) c.args.room.now c.if-room-problem.false _ (sym c.reduced_system.ensures ∙ c.in_ok-system.was) in
+    record { few_points = f.0; room = f.1; system = f.2 }
 
 pub returns : goal.returns
 returns c =
-    let a = c.args in
-    done (problem a.points.now a.view1.now a.view2.now a.inverse_deviations.now a.rig a.damping) a.room.now _ c.if-room-points.false _ c.reduced_system-reduced.ensures _ c.is_none.ensures (ap not c.if-not-is_none.false) _ c.solved_step.ensures
+    done (of c.args.problem.now) c.args.room.now c.if-room-problem.false _ (sym c.reduced_system.ensures ∙ c.in_ok-system.was) _ _ c.solved_step.ensures.answer c.solved_step.ensures.room

@@ -1,2 +1,0 @@
--- Laws of the call of the whole step.
-pub mod Laws
