@@ -27,16 +27,18 @@ fn last(rt: &impl Print, name: &[u8], c: u64) -> io::Result<()> {
 fn diagonal(rt: &impl Print, name: &[u8], a: f64, b: f64, c: f64, damping: f64) -> io::Result<()> {
     let lone = PointBlockFactor::new([a, 0.0, 0.0, 0.0, b, 0.0, 0.0, 0.0, c], damping);
     show::text(rt, name)?;
-    let refusal = lone.refusal;
-    if refusal.is_none() {
-        show::text(rt, b": rcond")?;
-        show::pattern(rt, number::to_bits(lone.rcond))?;
-        if (damping == 0.0) & (lone.rcond <= number::EPSILON192) {
-            show::text(rt, b" weak")?;
+    match lone {
+        Ok(lone) => {
+            show::text(rt, b": rcond")?;
+            show::pattern(rt, number::to_bits(lone.rcond))?;
+            if (damping == 0.0) & (lone.rcond <= number::EPSILON192) {
+                show::text(rt, b" weak")?;
+            }
         }
-    } else {
-        show::text(rt, b":")?;
-        show::refused(rt, refusal)?;
+        Err(refusal) => {
+            show::text(rt, b":")?;
+            show::refused(rt, refusal)?;
+        }
     }
     show::end(rt)
 }
@@ -52,12 +54,9 @@ fn scaled(rt: &impl Print, name: &[u8], d: f64) -> io::Result<()> {
     let solved = solver::solve_positive_definite(a, [1.0, 2.0, 3.0, 4.0, 5.0]);
     show::text(rt, name)?;
     show::text(rt, b":")?;
-    let refusal = solved.refusal;
-    if refusal.is_none() {
-        let x = solved.x;
-        show::patterns(rt, &x)?;
-    } else {
-        show::refused(rt, refusal)?;
+    match solved {
+        Ok(x) => show::patterns(rt, &x)?,
+        Err(refusal) => show::refused(rt, refusal)?,
     }
     show::end(rt)
 }

@@ -1,5 +1,6 @@
 // The figures of the projection.
 use projection::{PinholeCamera, Projected};
+use refusal::Refusal;
 use std::io;
 
 pub fn print(rt: &impl Print) -> io::Result<()> {
@@ -41,18 +42,18 @@ fn plain(rt: &impl Print, point: [f64; 3]) -> io::Result<()> {
     show_projected(rt, projection::pixel_projection(camera, [0.0, 0.0], point))
 }
 
-fn show_projected(rt: &impl Print, p: Projected) -> io::Result<()> {
-    let refusal = p.refusal;
-    if refusal.is_none() {
-        let residual = p.residual;
-        show::text(rt, b": residual")?;
-        show::patterns(rt, &residual)?;
-        let jacobian = p.jacobian;
-        show::text(rt, b" jacobian")?;
-        show::patterns(rt, &jacobian)?;
-    } else {
-        show::text(rt, b":")?;
-        show::refused(rt, refusal)?;
+fn show_projected(rt: &impl Print, projected: Result<Projected, Refusal>) -> io::Result<()> {
+    match projected {
+        Ok(p) => {
+            show::text(rt, b": residual")?;
+            show::patterns(rt, &p.residual)?;
+            show::text(rt, b" jacobian")?;
+            show::patterns(rt, &p.jacobian)?;
+        }
+        Err(refusal) => {
+            show::text(rt, b":")?;
+            show::refused(rt, refusal)?;
+        }
     }
     show::end(rt)
 }

@@ -4,8 +4,7 @@ use std::io;
 // A line for each line of text: `sqrt`, the pattern that its hexadecimal digits give and the pattern of its root.
 pub fn print(rt: &impl Print, text: &[u8]) -> io::Result<()> {
     let mut b: u64 = 0;
-    for i in 0..text.len() {
-        let byte = text[i];
+    for &byte in text {
         if byte == b'\n' {
             root(rt, b)?;
             b = 0;

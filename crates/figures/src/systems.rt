@@ -3,7 +3,7 @@ use linearization::LocalLinearization;
 use projection::PinholeCamera;
 use reduced_system::ReducedSystem;
 use std::io;
-use views::{Correspondence, Pose};
+use views::{Correspondence, Pose, Rig};
 
 pub fn print(rt: &impl Print) -> io::Result<()> {
     sample(rt)?;
@@ -29,40 +29,29 @@ pub fn print(rt: &impl Print) -> io::Result<()> {
 
 // The five points of the sample, each with its letter, then the sum
 fn sample(rt: &impl Print) -> io::Result<()> {
+    let points = [
+        (0.0, 0.0, 1.0),
+        (1.0, 0.0, 0.0),
+        (-1.0, 0.0, 0.0),
+        (0.0, 1.0, 0.0),
+        (0.0, -1.0, 0.0),
+    ];
     let mut system = ReducedSystem::new();
-    system = point(rt, system, 0, 0.0, 0.0, 1.0)?;
-    system = point(rt, system, 1, 1.0, 0.0, 0.0)?;
-    system = point(rt, system, 2, -1.0, 0.0, 0.0)?;
-    system = point(rt, system, 3, 0.0, 1.0, 0.0)?;
-    system = point(rt, system, 4, 0.0, -1.0, 0.0)?;
-    let finished = system.finish_damping(0.0);
-    let last = finished.system;
+    for (index, (x, y, off)) in points.into_iter().enumerate() {
+        let block = seen(x, y, off);
+        let letter = letters::letter(block, 0.0);
+        show::text(rt, b"sample p")?;
+        show::count(rt, index as u64)?;
+        show::text(rt, &[b' ', letter])?;
+        show::end(rt)?;
+        system = schur::add(system, block, 0.0).unwrap_or(system);
+    }
+    let last = system.finish_damping(0.0).unwrap_or(system);
     show::text(rt, b"sample sum")?;
     show::patterns(rt, &[last.cost, last.squared_residual])?;
     show::count(rt, last.weak_point_count as u64)?;
-    if last.is_valid() {
-        show::text(rt, b" y")?;
-    } else {
-        show::text(rt, b" n")?;
-    }
+    show::text(rt, if last.is_valid() { b" y" } else { b" n" })?;
     show::end(rt)
-}
-
-fn point(
-    rt: &impl Print,
-    system: ReducedSystem,
-    index: u16,
-    x: f64,
-    y: f64,
-    off: f64,
-) -> io::Result<ReducedSystem> {
-    let block = seen(x, y, off);
-    show::text(rt, b"sample p")?;
-    show::count(rt, index as u64)?;
-    show::text(rt, &[b' ', letters::letter(block, 0.0)])?;
-    show::end(rt)?;
-    let added = schur::add(system, block, 0.0);
-    Ok(added.system)
 }
 
 // The block of (x, y, 1), seen without error but for view 1, `off` too high
@@ -86,7 +75,12 @@ fn seen(x: f64, y: f64, off: f64) -> LocalLinearization {
         view2: [0.5 * x, 0.5 * y],
         inverse_deviation: 1.0,
     };
-    linearization::linearize_point(camera, camera, pose, correspondence)
+    let rig = Rig {
+        camera1: camera,
+        camera2: camera,
+        pose,
+    };
+    linearization::linearize_point(rig, correspondence).unwrap_or(linearization::NO_BLOCK)
 }
 
 // `add` on a system with these counts: its refusal, or the counts that it leaves
@@ -95,21 +89,22 @@ fn counted(rt: &impl Print, name: &[u8], weak: u16, blocks: u16, damping: f64) -
     system.weak_point_count = weak;
     system.block_count = blocks;
     let added = schur::add(system, seen(1.0, 0.0, 0.0), damping);
-    let next = added.system;
+    let next = added.unwrap_or(system);
     show::text(rt, name)?;
     show::text(rt, b":")?;
     show::count(rt, next.weak_point_count as u64)?;
     show::count(rt, next.block_count as u64)?;
-    show::refused_if(rt, added.refusal)?;
+    show::refused_if(rt, added.err())?;
     show::end(rt)
 }
 
+// What is predicted, +0 beside a refusal
 fn predicted(rt: &impl Print, name: &[u8], damping: f64) -> io::Result<()> {
     let predicted = ReducedSystem::new().predicted_reduction([0.0; 5], damping, 3.0);
     show::text(rt, name)?;
     show::text(rt, b":")?;
-    show::pattern(rt, number::to_bits(predicted.reduction))?;
-    show::refused_if(rt, predicted.refusal)?;
+    show::pattern(rt, number::to_bits(predicted.unwrap_or(0.0)))?;
+    show::refused_if(rt, predicted.err())?;
     show::end(rt)
 }
 
@@ -125,8 +120,7 @@ fn scaled(rt: &impl Print, name: &[u8], gradient: f64, diagonal: f64) -> io::Res
 
 // What damping adds where the pose has no curvature: 64ε × the smallest normal
 fn floored(rt: &impl Print) -> io::Result<()> {
-    let finished = ReducedSystem::new().finish_damping(1.0);
-    let system = finished.system;
-    let h = system.hessian;
-    show::named(rt, b"damping without curvature", h[24])
+    let new = ReducedSystem::new();
+    let system = new.finish_damping(1.0).unwrap_or(new);
+    show::named(rt, b"damping without curvature", system.hessian[24])
 }

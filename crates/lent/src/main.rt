@@ -2,14 +2,12 @@
 // Each line has a figure of the one, then of the other, as patterns of sixteen capital digits: the two columns have to be equal.
 #![tactic(auto)]
 
-ghost use Rattle.std.specs.Prelude.{◌≡◌};
-ghost use Rattle.list_of_adds.specs.System as System;
-
 use linearization::LocalLinearization;
 use projection::PinholeCamera;
-use reduced_system::{Added, ReducedSystem};
+use reduced_system::ReducedSystem;
+use refusal::Refusal;
 use std::io;
-use views::{Correspondence, Pose};
+use views::{Correspondence, Pose, Rig};
 
 #[derive(Clone, Copy)]
 struct Both {
@@ -18,21 +16,23 @@ struct Both {
 }
 
 fn main(rt: HostRuntime) -> io::Result<()> {
-    let first = added(&rt, none(), block(0.0, 0.0, 2.0), 0.0)?;
-    let second = added(&rt, first, block(1.0, 0.0, 2.0), 0.0)?;
-    let third = added(&rt, second, block(-1.0, 0.5, 4.0), 0.0)?;
-    let fourth = added(&rt, third, block(0.5, -1.0, 2.0), -1.0)?;
-    let fifth = added(&rt, fourth, block(0.5, -1.0, 2.0), 0.5)?;
-    let sixth = added(&rt, fifth, block(0.25, 0.25, 1.0), 0.0)?;
-    let seventh = added(&rt, sixth, block(1.0, 1.0, 8.0), 0.0)?;
-    print(&rt, seventh)
-}
-
-fn none() -> Both {
-    Both {
+    let adds = [
+        (block(0.0, 0.0, 2.0), 0.0),
+        (block(1.0, 0.0, 2.0), 0.0),
+        (block(-1.0, 0.5, 4.0), 0.0),
+        (block(0.5, -1.0, 2.0), -1.0),
+        (block(0.5, -1.0, 2.0), 0.5),
+        (block(0.25, 0.25, 1.0), 0.0),
+        (block(1.0, 1.0, 8.0), 0.0),
+    ];
+    let mut both = Both {
         lent: ReducedSystem::new(),
         by_value: ReducedSystem::new(),
+    };
+    for (local, damping) in adds {
+        both = added(&rt, both, local, damping)?;
     }
+    print(&rt, both)
 }
 
 // The block of a point before two cameras of which the second is turned about their common axis: on the axis no block factors.
@@ -56,37 +56,31 @@ fn block(x: f64, y: f64, z: f64) -> LocalLinearization {
         view2: [320.0 + 500.0 * x / z, 240.0 + 500.0 * y / z],
         inverse_deviation: 2.0,
     };
-    linearization::linearize_point(camera, camera, pose, correspondence)
+    let rig = Rig {
+        camera1: camera,
+        camera2: camera,
+        pose,
+    };
+    linearization::linearize_point(rig, correspondence).unwrap_or(linearization::NO_BLOCK)
 }
 
-// A line: the two refusals' numbers
+// A line: the two refusals' numbers, 0 where there is none
 fn added(rt: &impl Print, both: Both, local: LocalLinearization, damping: f64) -> io::Result<Both> {
-    let lent = both.lent;
-    let by_value = both.by_value;
-    let one = added_in_place(lent, local, damping);
-    let two = schur::add(by_value, local, damping);
-    let refusal1 = one.refusal;
-    let refusal2 = two.refusal;
-    pair(
-        rt,
-        b"refusal",
-        refusal1.number as u64,
-        refusal2.number as u64,
-    )?;
-    let lent_next = one.system;
-    let by_value_next = two.system;
+    let mut lent = both.lent;
+    let one = in_place::add_to(&mut lent, local, damping);
+    let two = schur::add(both.by_value, local, damping);
+    pair(rt, b"refusal", row(one.err()), row(two.err()))?;
     Ok(Both {
-        lent: lent_next,
-        by_value: by_value_next,
+        lent,
+        by_value: two.unwrap_or(both.by_value),
     })
 }
 
-// Lends the system.
-fn added_in_place(mut system: ReducedSystem, local: LocalLinearization, damping: f64) -> Added
-    ensures { result ≡ System.add system local damping }
-{
-    let refusal = in_place::add_to(&mut system, local, damping);
-    Added { system, refusal }
+fn row(refusal: Option<Refusal>) -> u64 {
+    match refusal {
+        Some(refusal) => refusal.row().number as u64,
+        None => 0,
+    }
 }
 
 fn print(rt: &impl Print, both: Both) -> io::Result<()> {
@@ -126,35 +120,28 @@ fn print(rt: &impl Print, both: Both) -> io::Result<()> {
         b.weak_point_count as u64,
     )?;
     pair(rt, b"blocks", a.block_count as u64, b.block_count as u64)?;
-    pair(rt, b"valid", flag(a.valid), flag(b.valid))
+    pair(rt, b"valid", a.valid as u64, b.valid as u64)
 }
 
 fn hessians(rt: &impl Print, a: ReducedSystem, b: ReducedSystem) -> io::Result<()> {
-    let one = a.hessian;
-    let two = b.hessian;
-    for i in 0..25 {
-        numbers(rt, b"hessian", one[i], two[i])?;
+    for (x, y) in a.hessian.iter().zip(&b.hessian) {
+        numbers(rt, b"hessian", *x, *y)?;
     }
     Ok(())
 }
 
 fn vectors(rt: &impl Print, a: ReducedSystem, b: ReducedSystem) -> io::Result<()> {
-    let gradient1 = a.gradient;
-    let gradient2 = b.gradient;
-    let full1 = a.full_pose_gradient;
-    let full2 = b.full_pose_gradient;
-    let diagonal1 = a.pose_diagonal;
-    let diagonal2 = b.pose_diagonal;
     for i in 0..5 {
-        numbers(rt, b"gradient", gradient1[i], gradient2[i])?;
-        numbers(rt, b"full pose gradient", full1[i], full2[i])?;
-        numbers(rt, b"pose diagonal", diagonal1[i], diagonal2[i])?;
+        numbers(rt, b"gradient", a.gradient[i], b.gradient[i])?;
+        numbers(
+            rt,
+            b"full pose gradient",
+            a.full_pose_gradient[i],
+            b.full_pose_gradient[i],
+        )?;
+        numbers(rt, b"pose diagonal", a.pose_diagonal[i], b.pose_diagonal[i])?;
     }
     Ok(())
-}
-
-fn flag(x: bool) -> u64 {
-    if x { 1 } else { 0 }
 }
 
 fn numbers(rt: &impl Print, name: &[u8], a: f64, b: f64) -> io::Result<()> {

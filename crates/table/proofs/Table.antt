@@ -4,17 +4,16 @@ use lib.Ieee.{neg, add, sub, mul, div, lt, eq, le, is_nan, of_bits, size, units}
 use Rattle.number.specs.Parts.{negative, is_finite, abs, magnitude}
 use Rattle.extrema.specs.Extrema.{max}
 use Rattle.root.specs.Root.{sqrt}
-use Rattle.refusal.specs.Refused.{is_none}
-use Rattle.projection.specs.Projection.{in_front, linearized, all_finite, not_projectable, pixel_projection}
+use Rattle.projection.specs.Projection.{in_front, linearized, all_finite, pixel_projection}
 use Rattle.cholesky.specs.Cholesky.{scale_of, cholesky_of, good_pivots, inverse_of, invert}
 use Rattle.point_damping.specs.Damping.{good_damping, largest_diagonal, floored, damping_diagonal, added_diagonal, damped_matrix}
-use Rattle.point_block.specs.Factor.{not_factored, factor_damped}
+use Rattle.point_block.specs.Factor.{factor_damped}
 use Rattle.point_block.specs.Condition.{infinity_norm, inverse_matrix, reciprocal_condition_number}
 use Rattle.point_block.specs.Lone as Lone
 use Rattle.pose_step.specs.PoseStep.{limit_pose_step}
 use Rattle.table.specs.Table.{Every, done, ◌and◌, table}
 
 pub every_row_holds : Every table
-unfolding neg add sub mul div lt eq le is_nan of_bits size units negative is_finite abs magnitude max sqrt is_none in_front linearized all_finite not_projectable pixel_projection largest_diagonal floored damping_diagonal added_diagonal damped_matrix scale_of cholesky_of good_pivots inverse_of invert not_factored factor_damped infinity_norm inverse_matrix reciprocal_condition_number Lone.factor good_damping Lone.refused Lone.lone_factor limit_pose_step
+unfolding neg add sub mul div lt eq le is_nan of_bits size units negative is_finite abs magnitude max sqrt in_front linearized all_finite pixel_projection largest_diagonal floored damping_diagonal added_diagonal damped_matrix scale_of cholesky_of good_pivots inverse_of invert factor_damped infinity_norm inverse_matrix reciprocal_condition_number Lone.factor good_damping Lone.lone_factor limit_pose_step
 every_row_holds =
     refl and refl and refl and refl and refl and refl and refl and refl and refl and refl and refl and refl and refl and refl and refl and refl and done

@@ -1,14 +1,16 @@
 -- The figures that document 01 marks ●, as one table, and what a row of it says of the definitions that the contracts cite. `proofs/Table.antt` proves every row.
-use Rattle.std.specs.Prelude.{ℕ, ◌≡◌, Bool, true, false, List, [], ◌∷◌, Float}
+use Rattle.std.specs.Prelude.{ℕ, ◌≡◌, Bool, true, false, List, [], ◌∷◌, Float, Result, Ok, Err, is_ok}
 use Rattle.std.specs.Float.{binary64}
 use Rattle.std.specs.Float.Ieee.{of_bits}
 use Rattle.number.specs.Binary64.{zero, neg_zero, half, one}
 use Rattle.root.specs.Root.{sqrt}
-use Rattle.refusal.specs.Rows as Rows
-use Rattle.refusal.specs.Refused.{of, none}
-use Rattle.refusal.specs.declared.Row.{Row}
+use Rattle.refusal.specs.Refused.{map_ok}
+use Rattle.refusal.specs.declared.Refusal.{Refusal}
+use Rattle.refusal.specs.declared.Refusal.TheVariants.{LoneProjection, NotFactored}
 use Rattle.projection.specs.Projection.{pixel_projection}
 use Rattle.projection.specs.declared.PinholeCamera.{PinholeCamera}
+use Rattle.point_block.specs.declared.PointBlockFactor.{PointBlockFactor}
+use Rattle.point_block.specs.declared.LoneFactor.{LoneFactor}
 use Rattle.point_block.specs.Lone.{factor, lone_factor}
 use Rattle.point_block.specs.Condition.{is_weak}
 use Rattle.pose_step.specs.PoseStep.{limit_pose_step}
@@ -24,13 +26,13 @@ camera fx fy cx cy skew = record { fx = fx; fy = fy; cx = cx; cy = cy; skew = sk
 abbrev pub diagonal : Float → Float → Float → List Float
 diagonal a b c = a ∷ zero ∷ zero ∷ zero ∷ b ∷ zero ∷ zero ∷ zero ∷ c ∷ []
 
--- the lone factor's refusal and rcond at damping 0
-abbrev pub rcond_of : List Float → Row × Float
-rcond_of m = ((lone_factor m zero).refusal, (lone_factor m zero).rcond)
+-- the rcond of the lone factor at damping 0
+abbrev pub rcond_of : List Float → Result Float Refusal
+rcond_of m = map_ok (λ (f : LoneFactor). f.rcond) (lone_factor m zero)
 
--- the lone factor's refusal at damping 0, and the weak test of `add`
-abbrev pub weak_of : List Float → Row × Bool
-weak_of m = ((lone_factor m zero).refusal, is_weak (factor m zero).inverse m)
+-- whether the lone factor is there at damping 0, and the weak test of `add`
+abbrev pub weak_of : List Float → Bool × Result Bool Refusal
+weak_of m = (is_ok (lone_factor m zero), map_ok (λ (f : PointBlockFactor). is_weak f.inverse m) (factor m zero))
 
 -- a figure: what is asked, and the answer
 pub data Row : Type 0 where
@@ -51,14 +53,14 @@ pub data Row : Type 0 where
 
 abbrev pub Says : Row → Type 0
 Says (root x r) = sqrt x ≡ r
-Says (projected c seen point r j) = pixel_projection c seen point ≡ record { residual = r; jacobian = j; refusal = none }
-Says (not_projected c seen point) = (pixel_projection c seen point).refusal ≡ of Rows.projection
-Says (accepted c seen point) = (pixel_projection c seen point).refusal ≡ none
-Says (refused m damping) = (lone_factor m damping).refusal ≡ of Rows.not_factored
-Says (factors m damping) = (lone_factor m damping).refusal ≡ none
-Says (rcond m r) = rcond_of m ≡ (none, r)
-Says (weak m) = weak_of m ≡ (none, true)
-Says (not_weak m) = weak_of m ≡ (none, false)
+Says (projected c seen point r j) = pixel_projection c seen point ≡ Ok (record { residual = r; jacobian = j })
+Says (not_projected c seen point) = pixel_projection c seen point ≡ Err LoneProjection
+Says (accepted c seen point) = is_ok (pixel_projection c seen point) ≡ true
+Says (refused m damping) = lone_factor m damping ≡ Err NotFactored
+Says (factors m damping) = is_ok (lone_factor m damping) ≡ true
+Says (rcond m r) = rcond_of m ≡ Ok r
+Says (weak m) = weak_of m ≡ (true, Ok true)
+Says (not_weak m) = weak_of m ≡ (true, Ok false)
 Says (limited x y) = limit_pose_step x ≡ y
 
 abbrev pub table : List Row

@@ -1,7 +1,7 @@
 -- `correspondences::numbers_at` meets its contract. Assumes nothing.
 use Rattle.std.proofs.Common.{rules, ◌+◌, ◌*◌}
 use Rattle.number.specs.Vectors.{◌!◌}
-use Rattle.correspondences.proofs.FromFn.{from_fn_tabulates}
+use Rattle.number.proofs.FromFn.{from_fn_tabulates}
 use Rattle.correspondences.proofs.numbers_at.Goals as goal
 
 pub returns-then-at-values : goal.returns-then-at-values

@@ -1,2 +1,0 @@
--- An array that `from_fn` makes.
-mod FromFn
