@@ -5,10 +5,6 @@ use std::io;
 
 pub fn of(rt: &impl Print, record: &[u8]) -> io::Result<()> {
     let mut out = [0u8; record::MAX_LIST];
-    let written = record::write_list(record, &mut out);
-    let length = written.length;
-    if length <= out.len() {
-        rt.write_all(&out[..length])?;
-    }
-    Ok(())
+    let length = record::write_list(record, &mut out).unwrap();
+    rt.write_all(&out[..length])
 }

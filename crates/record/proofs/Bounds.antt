@@ -1,19 +1,21 @@
 -- The longest list: 4,057 bytes. Assumes nothing.
-use mathlib.Core.Path.{◌≡◌, refl, sym, ap, ◌∙◌}
-use mathlib.Core.Bool.{Bool, true, false, not, cond}
+use mathlib.Core.Path.{◌≡◌, refl, ap, ◌∙◌}
+use mathlib.Core.Bool.{Bool, true, false, cond}
 use mathlib.Core.List.{List, [], ◌∷◌, ◌++◌}
 use Prim.Native.Nat.{ℕ, zero, suc, ◌+◌, ◌*◌, ◌-◌, ◌/◌, ◌≤◌, ◌<◌}
 use native.Mathlib.Omega.{arith}
 use native.Mathlib.Nat.{zero-add}
-use borrow.Author.Tests.{ltb-true, ltb-false, leb-true, not-true, not-false}
-use lib.Dec.{eqb, ltb, leb}
+use borrow.Author.Tests.{ltb-true, ltb-false, lt-leb, le-leb}
+use lib.Dec.{eqb, ltb}
 use lib.ListN.{length, take, drop, length-append}
 use lib.Seq.{take_at}
 use lib.Ieee.{Float, binary64, to_bits}
 use Rattle.number.proofs.Fill.{length_tabulate}
-use Rattle.refusal.specs.Refused.{is_none}
-use Rattle.refusal.specs.declared.Row.{Row}
-use Rattle.refusal.proofs.Scans.{after_none}
+use Rattle.std.specs.Prelude.{Ok, Err}
+use Rattle.refusal.specs.First.{Checked}
+use Rattle.refusal.specs.Refused.{row}
+use Rattle.refusal.specs.declared.Refusal.{Refusal}
+use Rattle.refusal.proofs.Scans.{after_ok}
 use Rattle.correspondences.specs.Problem.{Problem, count}
 use Rattle.reduced_system.specs.Model.{is_valid}
 use Rattle.reduced_system.specs.declared.ReducedSystem.{ReducedSystem}
@@ -29,7 +31,7 @@ use Rattle.text.specs.Text.{space, line_feed, digit, without_zeros, decimal, pas
 use Rattle.letters.specs.Letters.{letter}
 use Rattle.lines.specs.Lines.{bits_then, run_line, point_line, refused_line}
 use Rattle.sum_line.specs.SumLine.{validity, verdict, sum_line}
-use Rattle.record.specs.Lists.{point_lines, lines_of, refused, list, max_list, NeverNan, Wrote}
+use Rattle.record.specs.Lists.{point_lines, lines_of, check, listed, list, max_list, fits, NeverNan, Wrote}
 use Rattle.record_form.proofs.Forms.{formed, few_points}
 use Rattle.text.proofs.Puts.{put_fits, put_length}
 
@@ -132,9 +134,10 @@ sum_length s h =
     let k = three s.weak_point_count h in
     omega arith
 
-refused_length : (r : Row) → length (refused_line r) ≤ 41
+refused_length : (refusal : Refusal) → length (refused_line refusal) ≤ 41
 unfolding refused_line
-refused_length r =
+refused_length refusal =
+    let r = row refusal in
     let x : List ℕ = 114 ∷ 101 ∷ 102 ∷ 117 ∷ 115 ∷ 101 ∷ 100 ∷ space ∷ [] in
     let n = decimal r.number in
     let v = decimal r.view in
@@ -156,10 +159,10 @@ count_run : (r : List ℕ) → count (run r) ≡ point_fields r
 unfolding run
 count_run r = length_tabulate (point_fields r) (column r 56 1)
 
-lines_length : (r : List ℕ) → is_none (refused r) ≡ true → length (lines_of r (reduced_system (run r))) ≤ max_list
-unfolding lines_of refused
+lines_length : (r : List ℕ) → check r ≡ Ok tt → length (lines_of r (reduced_system (run r))) ≤ max_list
+unfolding lines_of check
 lines_length r e =
-    let checks = after_none (Form.refused r) (Checks.refused (run r)) e in
+    let checks = after_ok (Form.check r) (Checks.check (run r)) e in
     let n : point_fields r ≤ 512 = few_points r (formed r checks.0) in
     let k = checked (run r) checks.1 in
     let m = weak_at_most (run r) k.1 k.0.3 in
@@ -174,16 +177,18 @@ lines_length r e =
 
 pub list_fits : (r : List ℕ) → length (list r) ≤ max_list
 unfolding list
-list_fits r = by (is_none (refused r)) refl
+list_fits r = by (check r) refl
   where
-    by : (b : Bool) → is_none (refused r) ≡ b → length (cond b (lines_of r (reduced_system (run r))) (refused_line (refused r))) ≤ max_list
-    by true e = lines_length r e
-    by false e = let h = refused_length (refused r) in omega arith
+    by : (x : Checked) → check r ≡ x → length (listed r x) ≤ max_list
+    by (Ok tt) e = lines_length r e
+    by (Err f) e = let h = refused_length f in omega arith
 
 -- the sum line's cost and squared residual are never NaN
-pub sums_are_numbers : (r : List ℕ) → is_none (refused r) ≡ true → NeverNan r
-unfolding refused
-sums_are_numbers r e = let n = costs_are_numbers (run r) (checked (run r) (after_none (Form.refused r) (Checks.refused (run r)) e).1).1 in record { cost = n.0; squared = n.1 }
+pub sums_are_numbers : (r : List ℕ) → check r ≡ Ok tt → NeverNan r
+unfolding check
+sums_are_numbers r e =
+    let n = costs_are_numbers (run r) (checked (run r) (after_ok (Form.check r) (Checks.check (run r)) e).1).1 in
+    record { cost = n.0; squared = n.1 }
 
 -- ---- written
 
@@ -200,25 +205,22 @@ module _ (r room : List ℕ) (l : ℕ) (after : List ℕ) (h : length room ≡ m
   pub made_length : l ≤ length after
   made_length = let k = list_fits r in let a = put_list.0 in let b = put_length (list r) 0 room l after p in omega arith
 
-  short : l ≤ max_list
-  short = let k = list_fits r in let a = put_list.0 in omega arith
-
   module _ (out : List ℕ) where
-    pub not_written : not (leb l (length out)) ≡ true → Wrote r out (record { length = l; fits = false }) out
-    not_written t = record {
-      same_length = put_list.0;
-      bound = short;
-      fits = sym (ap (λ (n : ℕ). leb n (length out)) (sym put_list.0) ∙ not-true (leb l (length out)) t);
-      same_out = refl;
-    }
-
-    pub written : not (leb l (length out)) ≡ false → (next : ℕ) (end : List ℕ) → Put (take l after) 0 out next end → Wrote r out (record { length = l; fits = true }) end
-    written t next end q =
-        let k = leb-true l (length out) (not-false (leb l (length out)) t) in
+    pub not_written : length out < l → Wrote r out (Err (record { needed = l })) out
+    not_written t =
         let a = put_list.0 in
-        let b = ap length made in record {
-          same_length = put_list.0;
-          bound = short;
-          fits = sym (ap (λ (n : ℕ). leb n (length out)) (sym put_list.0) ∙ not-false (leb l (length out)) t);
-          same_out = (put_fits (take l after) 0 out next end q (omega arith)).1 ∙ ap (λ (x : List ℕ). pasted out 0 x) made;
+        let f : fits r out ≡ false = lt-leb (length (list r)) (length out) (omega arith) in record {
+          answer = rw (a, f) refl;
+          bound = list_fits r;
+          same_out = rw f refl;
+        }
+
+    pub written : l ≤ length out → (next : ℕ) (end : List ℕ) → Put (take l after) 0 out next end → Wrote r out (Ok l) end
+    written t next end q =
+        let a = put_list.0 in
+        let b = ap length made in
+        let f : fits r out ≡ true = le-leb (length (list r)) (length out) (omega arith) in record {
+          answer = rw (a, f) refl;
+          bound = list_fits r;
+          same_out = rw f ((put_fits (take l after) 0 out next end q (omega arith)).1 ∙ ap (λ (x : List ℕ). pasted out 0 x) made);
         }

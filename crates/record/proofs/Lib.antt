@@ -1,6 +1,7 @@
 -- Laws of the run that a record holds and of its list: it meets no row below 3 (`Rows`), and the prefix read decides (`Prefix`).
-pub mod Runs
-pub mod Listed
+mod Columns
+mod Runs
+mod Listed
 pub mod Bounds
 pub mod Rows
 pub mod Prefix

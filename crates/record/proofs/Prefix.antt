@@ -9,15 +9,14 @@ use borrow.Author.Tests.{leb-true, leb-false, lt-leb}
 use lib.Dec.{leb}
 use lib.ListN.{length, take}
 use lib.Seq.{take_all, length-take-le}
-use Rattle.refusal.specs.Rows as Rows
-use Rattle.refusal.specs.Refused.{of, is_none}
+use Rattle.refusal.specs.declared.Refusal.TheVariants.{RecordTooLong}
 use Rattle.record_form.specs.Form as Form
 use Rattle.record_form.specs.Form.{max_record}
 use Rattle.lines.specs.Lines.{refused_line}
-use Rattle.record.specs.Lists.{refused, list}
+use Rattle.record.specs.Lists.{check, list}
 
-too_long : (r : List ℕ) → max_record < length r → list r ≡ refused_line (of Rows.record_too_long)
-unfolding list refused Form.refused is_none
+too_long : (r : List ℕ) → max_record < length r → list r ≡ refused_line RecordTooLong
+unfolding list check Form.check
 too_long r h = rw (lt-leb (length r) max_record h) refl
 
 pub prefix_decides : (r : List ℕ) → list (take (max_record + 1) r) ≡ list r

@@ -5,15 +5,14 @@ use Prim.Native.Nat.{ℕ, ◌*◌}
 use native.Mathlib.Omega.{arith}
 use borrow.Author.Tests.{eq-eqb, le-leb}
 use Rattle.number.proofs.Fill.{length_tabulate}
-use Rattle.refusal.specs.Refused.{is_none}
-use Rattle.checks.specs.Checks.{max_points, values_refused, refused}
+use Rattle.checks.specs.Checks.{max_points, check_values, check}
 use Rattle.fields.specs.Fields.{point_fields}
 use Rattle.record_form.specs.Form.{Formed}
 use Rattle.record_form.proofs.Forms.{few_points}
 use Rattle.run.specs.Run.{column, run}
 
-pub checks_from_row_3 : (r : List ℕ) → Formed r → refused (run r) ≡ values_refused (run r)
-unfolding refused run is_none
+pub checks_from_row_3 : (r : List ℕ) → Formed r → check (run r) ≡ check_values (run r)
+unfolding check run
 checks_from_row_3 r f =
     let n = point_fields r in
     let few = few_points r f in

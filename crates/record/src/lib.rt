@@ -4,5 +4,5 @@
 mod list;
 mod points;
 
-pub use list::{MAX_LIST, Written, write_list};
+pub use list::{MAX_LIST, TooSmall, write_list};
 pub use record_form::MAX_RECORD;

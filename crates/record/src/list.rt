@@ -1,6 +1,6 @@
 // The list of a run record.
-ghost use Rattle.std.specs.Prelude.{true, ◌≡◌};
-ghost use Rattle.refusal.specs.Refused.{is_none};
+ghost use Rattle.std.specs.Prelude.{◌≡◌};
+ghost use Rattle.std.specs.Result.{result_and};
 ghost use Rattle.assembly.specs.Assembly as Assembly;
 ghost use Rattle.fields.specs.Fields as Fields;
 ghost use Rattle.record_form.specs.Form as Form;
@@ -9,104 +9,107 @@ ghost use Rattle.record.specs.Lists as Lists;
 ghost use Rattle.text.specs.Text as Text;
 
 use crate::points;
-use correspondences::Rig;
+use correspondences::Problem;
 use reduced_system::ReducedSystem;
+use refusal::Refusal;
+use std::error::Error;
+use std::fmt;
 
 // No list has more bytes.
 pub const MAX_LIST: usize = 4057;
 
-// The list's length, and whether it fits into the lent buffer
-#[derive(Clone, Copy)]
-pub struct Written {
-    pub length: usize,
-    pub fits: bool,
+// A lent buffer has less than the bytes that the list needs.
+#[derive(Clone, Copy, Debug, PartialEq, Eq)]
+pub struct TooSmall {
+    pub needed: usize,
 }
 
-// Writes the list of a record into out. Where it does not fit, nothing is written.
-pub fn write_list(record: &[u8], out: &mut [u8]) -> Written
+impl fmt::Display for TooSmall {
+    fn fmt<W: fmt::Write>(&self, f: &mut fmt::Formatter<W>) -> fmt::Result {
+        let needed = self.needed;
+        write!(f, "the list needs {needed} bytes")
+    }
+}
+
+impl Error for TooSmall {}
+
+// Writes the list of a record into out, and answers its length. Where it does not fit, nothing is written.
+pub fn write_list(record: &[u8], out: &mut [u8]) -> Result<usize, TooSmall>
     ensures { Lists.Wrote «record».now out.old result out.new }
 {
     let mut list = [0u8; MAX_LIST];
     let length = put_list(&mut list, record);
-    if !(length <= out.len()) {
-        return Written {
-            length,
-            fits: false,
-        };
+    if length > out.len() {
+        return Err(TooSmall { needed: length });
     }
     text::put(out, 0, &list[..length]);
-    Written { length, fits: true }
+    Ok(length)
 }
 
 // The list of any record
+#[tactic(auto, using(crate::proofs::Listed::form_passed, crate::proofs::Listed::run_listed, crate::proofs::Listed::run_refused))]
 fn put_list(out: &mut [u8], record: &[u8]) -> usize
     ensures { Text.Put (Lists.list «record».now) 0 out.old result out.new }
 {
-    let refusal = record_form::refused(record);
-    if !refusal.is_none() {
-        return lines::put_refused(out, 0, refusal);
+    match system_of(record) {
+        Ok(system) => put_lines(out, record, system),
+        Err(refusal) => lines::put_refused(out, 0, refusal),
     }
-    put_formed(out, record)
 }
 
-// The list of a record of the right form
-fn put_formed(out: &mut [u8], record: &[u8]) -> usize
-    requires { is_none (Form.refused «record».now) ≡ true }
-    ensures { Text.Put (Lists.list «record».now) 0 out.old result out.new }
+// The system of a record: rows 14 and 15, then 3 to 9
+#[tactic(auto, using(record_form::proofs::Forms::formed))]
+fn system_of(record: &[u8]) -> Result<ReducedSystem, Refusal>
+    ensures { result ≡ result_and (Form.check «record».now) (Assembly.reduced (Run.run «record».now)) }
 {
-    let rig = run::rig_of(record);
-    let damping = run::number_at(record, (fields::DAMPING_AT + 3) as u32);
-    let reduced = reduced_system(record, rig, damping);
-    let refusal = reduced.refusal;
-    if !refusal.is_none() {
-        return lines::put_refused(out, 0, refusal);
-    }
-    let system = reduced.system;
-    put_lines(out, record, rig, damping, system)
+    record_form::check(record)?;
+    reduced_system(record)
 }
 
 // The system of a record of the right form
-fn reduced_system(record: &[u8], rig: Rig, damping: f64) -> assembly::Reduced
-    requires { Lists.Read «record».now rig damping }
+fn reduced_system(record: &[u8]) -> Result<ReducedSystem, Refusal>
+    requires { Form.Formed «record».now }
     ensures { result ≡ Assembly.reduced (Run.run «record».now) }
 {
     let n = fields::point_fields(record);
-    let twice = 2 * n;
-    let thrice = 3 * n;
-    let points = points::column(record, 0, 3, thrice);
-    let view1 = points::column(record, 24, 2, twice);
-    let view2 = points::column(record, 40, 2, twice);
-    let deviations = points::column(record, 56, 1, n);
-    assembly::reduced_system(
-        &points[..thrice],
-        &view1[..twice],
-        &view2[..twice],
-        &deviations[..n],
-        rig,
-        damping,
-    )
+    let points = points::column(record, 0, 3);
+    let view1 = points::column(record, 24, 2);
+    let view2 = points::column(record, 40, 2);
+    let inverse_deviations = points::column(record, 56, 1);
+    assembly::reduced_system(&Problem {
+        points: &points[..3 * n],
+        view1: &view1[..2 * n],
+        view2: &view2[..2 * n],
+        inverse_deviations: &inverse_deviations[..n],
+        rig: run::rig_of(record),
+        damping: run::damping_of(record),
+    })
 }
 
 // The lines of a run that is not refused
-fn put_lines(out: &mut [u8], record: &[u8], rig: Rig, damping: f64, system: ReducedSystem) -> usize
-    requires { Lists.Read «record».now rig damping }
+#[tactic(auto, using(text::proofs::Puts::put_put), unfolding(crate::specs::Lists::lines_of))]
+fn put_lines(out: &mut [u8], record: &[u8], system: ReducedSystem) -> usize
+    requires { Form.Formed «record».now }
     ensures { Text.Put (Lists.lines_of «record».now system) 0 out.old result out.new }
 {
     let n = fields::point_fields(record);
-    let points_at = lines::put_run(out, 0, n as u32, damping);
-    let sum_at = put_points(out, points_at, record, rig, damping);
+    let points_at = lines::put_run(out, 0, n as u32, run::damping_of(record));
+    let sum_at = put_points(out, points_at, record);
     sum_line::put_sum(out, sum_at, system)
 }
 
 // A line for each point
-fn put_points(out: &mut [u8], start: usize, record: &[u8], rig: Rig, damping: f64) -> usize
-    requires { Lists.Read «record».now rig damping }
+fn put_points(out: &mut [u8], start: usize, record: &[u8]) -> usize
+    requires { Form.Formed «record».now }
     ensures { Text.Put (Lists.point_lines (Run.run «record».now) (Fields.point_fields «record».now)) start out.old result out.new }
 {
+    let rig = run::rig_of(record);
+    let damping = run::damping_of(record);
     let mut at = start;
-    for i in 0..fields::point_fields(record) {
-        let letter = letters::letter(points::block_at(record, rig, i), damping);
-        at = lines::put_point(out, at, i as u32, letter);
+    for i in 0..fields::point_fields(record) as u32 {
+        let block = assembly::block_of(rig, run::correspondence_at(record, i));
+        let letter = letters::letter(block, damping);
+        at = lines::put_point(out, at, i, letter);
     }
     at
 }

@@ -69,6 +69,13 @@ pub fn rig_of(record: &[u8]) -> Rig
     }
 }
 
+// The damping
+pub fn damping_of(record: &[u8]) -> f64
+    ensures { result ≡ Run.damping «record».now }
+{
+    number_from(record, fields::DAMPING_AT + HEAD_SIZE)
+}
+
 // What a point's field holds
 pub fn correspondence_at(record: &[u8], i: u32) -> Correspondence
     ensures { result ≡ Run.correspondence_of «record».now i }

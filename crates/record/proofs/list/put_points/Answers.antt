@@ -1,13 +1,9 @@
-use Rattle.text.proofs.Puts.{put_same}
+use Rattle.std.proofs.Common.{◌≡◌, ℕ, length, ap, ◌∙◌, refl, arith, rules}
 use Rattle.fields.specs.Fields.{point_fields}
 use Rattle.run.specs.Run.{run}
+use Rattle.text.proofs.Puts.{put_same}
 use Rattle.record.specs.Lists.{point_lines}
 use Rattle.record.proofs.Runs.{next_line, no_lines}
-use lib.ListN.{length}
-use mathlib.Core.Path.{ap, ◌∙◌, ◌≡◌, refl}
-use Prim.Native.Nat.{ℕ}
-use native.Mathlib.Omega.{arith}
-use borrow.Author.Rules.{rules}
 use Rattle.record.proofs.list.put_points.Goals as goal
 
 pub loop-i-init : goal.loop-i-init
@@ -15,12 +11,14 @@ loop-i-init c = (omega arith, c.point_fields-i-end.ensures, refl, no_lines _ _ _
 
 pub loop-i-preserved : goal.loop-i-preserved
 loop-i-preserved c =
-    let k : length c.put_point-at.new.out ≡ length c.loop-i.out = search rules in
-    let read = c.requires in
-    (omega arith, c.loop-i.invariant.1, k ∙ c.loop-i.invariant.2, next_line _ c.loop-i.i (omega arith) _ _ _ _ _ _ c.loop-i.invariant.3 _ read.1 _ c.block_at.ensures _ read.2 _ c.letter-letter.ensures c.put_point-at.ensures)
-
-pub shape_of-out : goal.shape_of-out
-shape_of-out c = c.loop-i.invariant.2
+    let k : length c.put_point-at.new.out ≡ length c.loop-i.out = search rules in (
+      omega arith,
+      c.loop-i.invariant.1,
+      k ∙ c.loop-i.invariant.2,
+      next_line _ c.loop-i.i (omega arith) _ _ _ _ _ _ c.loop-i.invariant.3 _ c.rig_of-rig.ensures _ c.correspondence_at.ensures _ c.block_of-block.ensures _ c.damping_of-damping.ensures _
+          c.letter-letter.ensures
+          c.put_point-at.ensures,
+    )
 
 pub returns : goal.returns
 returns c =

@@ -1,14 +1,10 @@
+use Rattle.std.proofs.Common.{◌≡◌, ◌≤◌, length}
 use Rattle.fields.specs.Fields.{point_fields}
 use Rattle.run.specs.Run.{run}
-use Rattle.record.specs.Lists.{point_lines}
 use Rattle.text.specs.Text.{Put}
-use lib.ListN.{length}
-use mathlib.Core.Path.{◌≡◌}
-use Prim.Native.Nat.{◌-◌, ◌≤◌}
+use Rattle.record.specs.Lists.{point_lines}
 use Rattle.record.proofs.list.put_points.Given as goal
 
 abbrev pub invariant-loop-i : goal.invariant-loop-i
-invariant-loop-i l = (l.i ≤ l.i-end) × (l.i-end ≡ point_fields l.record) × (length l.out ≡ length l.initial.out) × Put (point_lines (run l.record) l.i) l.start l.initial.out l.at l.out
-
-abbrev pub decreases-loop-i : goal.decreases-loop-i
-decreases-loop-i l = l.i-end - l.i
+invariant-loop-i l =
+    (l.i ≤ l.i-end) × (l.i-end ≡ point_fields l.record) × (length l.out ≡ length l.initial.out) × Put (point_lines (run l.record) l.i) l.start l.initial.out l.at l.out
