@@ -1,156 +1,78 @@
 // A line of stored answers: its reader, and whether an answer is the stored one.
 #![tactic(auto)]
 
-ghost use Rattle.std.specs.Prelude.{◌<◌, ◌≤◌, length};
+// No call has more inputs.
+pub const MOST: usize = 108;
 
-// So many words a line may have, `=` and `refused` among them.
-pub const WORDS: usize = 160;
-
-// A line by its words: the inputs, `=` at `split`, then the outputs, or `refused` and three numbers.
-// What stands for `=` and `refused` themselves has no sense.
+// A line: the inputs' patterns, ` = `, and the answer
 #[derive(Clone, Copy)]
-pub struct Case {
-    pub words: [u64; WORDS],
-    pub count: usize,
-    pub split: usize,
-    pub refused: bool,
-    // Whether each byte has a place in such a line
-    pub formed: bool,
-    // Where the next line begins
-    pub next: usize,
+pub struct Case<'a> {
+    inputs: &'a str,
+    answer: Answer<'a>,
 }
 
-// Where the reader is: at a word, with what it has seen before
+// The patterns of the numbers that a call gave, or its refusal
 #[derive(Clone, Copy)]
-struct Place {
-    word: usize,
-    split: usize,
-    refused: bool,
-    formed: bool,
+enum Answer<'a> {
+    Numbers(&'a str),
+    Refused { row: u8, view: u8, index: u32 },
 }
 
-impl Case {
-    // The line that begins at `start`; out of form where the text ends before it
-    pub fn read(text: &[u8], start: usize) -> Self
-        ensures { start ≤ length text.now → start < result.next }
-    {
-        if text.len() < start {
-            return Self {
-                words: [0; WORDS],
-                count: 0,
-                split: 0,
-                refused: false,
-                formed: false,
-                next: start,
-            };
-        }
-        Self::line(text, start)
+impl<'a> Case<'a> {
+    // None of a line out of form
+    pub fn read(line: &'a str) -> Option<Self> {
+        let (inputs, answer) = line.split_once(" = ")?;
+        let answer = Answer::read(answer)?;
+        Some(Self { inputs, answer })
     }
 
-    fn line(text: &[u8], start: usize) -> Self
-        requires { start ≤ length text.now }
-        ensures { start < result.next }
-    {
-        let mut words = [0u64; WORDS];
-        let mut place = Place {
-            word: 0,
-            split: 0,
-            refused: false,
-            formed: true,
-        };
-        let mut at = start;
-        while at < text.len() {
-            let byte = text[at];
-            if byte == b'\n' {
-                break;
-            }
-            let word = place.word % WORDS;
-            words[word] = place.joined(words[word], byte);
-            place = place.after(byte);
-            at += 1;
+    // The inputs, in front of zeros; none where there are not `count`
+    pub fn inputs(&self, count: usize) -> Option<[f64; MOST]> {
+        let mut words = self.inputs.split(' ');
+        let mut inputs = [0.0; MOST];
+        for x in inputs.iter_mut().take(count) {
+            *x = number::from_bits(pattern(words.next()?)?);
         }
-        Self {
-            words,
-            count: std::num::wrapping_add_usize(place.word, 1),
-            split: place.split,
-            refused: place.refused,
-            formed: place.formed,
-            next: at + 1,
+        match words.next() {
+            Some(_) => None,
+            None => Some(inputs),
         }
     }
 
-    // The numbers of all words
-    pub fn numbers(self) -> [f64; WORDS] {
-        let words = self.words;
-        let mut values = [0.0; WORDS];
-        for i in 0..WORDS {
-            values[i] = number::from_bits(words[i]);
-        }
-        values
+    pub fn is_refused(&self) -> bool {
+        matches!(self.answer, Answer::Refused { .. })
     }
 
     // Whether the stored answer is this code, with just these numbers where it is 0
-    pub fn agrees(self, code: u64, given: &[f64]) -> bool {
-        let words = self.words;
-        let start = std::num::wrapping_add_usize(self.split, 1);
-        if self.refused {
-            return self.count == std::num::wrapping_add_usize(start, 4)
-                && same_refusal(&words, start, code);
+    pub fn agrees(&self, code: u64, given: &[f64]) -> bool {
+        match self.answer {
+            Answer::Numbers(words) => {
+                let given = given.iter().map(|x| Some(number::to_bits(*x)));
+                code == 0 && words.split(' ').map(pattern).eq(given)
+            }
+            Answer::Refused { row, view, index } => {
+                code == u64::from(row) + 256 * u64::from(view) + 65536 * u64::from(index)
+            }
         }
-        code == 0
-            && self.count == std::num::wrapping_add_usize(start, given.len())
-            && same_numbers(&words, start, given)
     }
 }
 
-// `refused`, number, view, index
-fn same_refusal(words: &[u64; WORDS], start: usize, code: u64) -> bool {
-    if WORDS - 4 < start {
-        return false;
+impl<'a> Answer<'a> {
+    fn read(text: &'a str) -> Option<Self> {
+        let Some(refusal) = text.strip_prefix("refused ") else {
+            return Some(Answer::Numbers(text));
+        };
+        let (row, place) = refusal.split_once(' ')?;
+        let (view, index) = place.split_once(' ')?;
+        Some(Answer::Refused {
+            row: row.parse().ok()?,
+            view: view.parse().ok()?,
+            index: index.parse().ok()?,
+        })
     }
-    words[start + 1] == code % 256
-        && words[start + 2] == code / 256 % 256
-        && words[start + 3] == code / 65536
 }
 
-fn same_numbers(words: &[u64], start: usize, given: &[f64]) -> bool {
-    if words.len() < start {
-        return false;
-    }
-    if words.len() - start < given.len() {
-        return false;
-    }
-    for i in 0..given.len() {
-        if words[start + i] != number::to_bits(given[i]) {
-            return false;
-        }
-    }
-    true
-}
-
-impl Place {
-    fn after(mut self, byte: u8) -> Self {
-        match byte {
-            b' ' => self.word = std::num::wrapping_add_usize(self.word, 1),
-            b'=' => self.split = self.word,
-            b'r' => self.refused = true,
-            b'0'..=b'9' | b'A'..=b'F' => {}
-            b'a'..=b'z' => self.formed = self.formed & self.refused,
-            _ => self.formed = false,
-        }
-        self
-    }
-
-    // The word's value with one digit more: decimal past `refused`, and hexadecimal before
-    fn joined(self, value: u64, byte: u8) -> u64 {
-        if byte == b' ' {
-            return value;
-        }
-        let high = value % 0x1000_0000_0000_0000;
-        if self.refused {
-            high * 10 + hex_digits::value(byte)
-        } else {
-            high * 16 + hex_digits::value(byte)
-        }
-    }
+// None of a word that is no number in hexadecimal
+fn pattern(word: &str) -> Option<u64> {
+    u64::from_str_radix(word, 16).ok()
 }

@@ -6,6 +6,8 @@ ghost use Rattle.pixel_step.specs.Interface as Interface;
 pub extern "C" fn pixel_step_write_list(record: &[u8], out: &mut [u8]) -> u64
     ensures { Interface.Listed «record».now out.old result out.new }
 {
-    let written = record::write_list(record, out);
-    written.length as u64
+    match record::write_list(record, out) {
+        Ok(length) => length as u64,
+        Err(too_small) => too_small.needed as u64,
+    }
 }

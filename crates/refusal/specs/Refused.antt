@@ -1,5 +1,5 @@
--- The refusals: a row's number, a view and an index, the last two 0 where they have no sense. Row 0 refuses nothing.
-use Rattle.std.specs.Prelude.{ℕ, zero, suc, Bool, true, false, Result, Ok, Err}
+-- The refusals by their numbers: a row, a view and an index, the last two 0 where they have no sense.
+use Rattle.std.specs.Prelude.{ℕ, Result, Ok, Err}
 use Rattle.refusal.specs.Rows as Rows
 use Rattle.refusal.specs.declared.Row.{Row}
 use Rattle.refusal.specs.declared.View.{View}
@@ -12,17 +12,6 @@ at number view index = record { number = number; view = view; index = index }
 
 abbrev pub of : ℕ → Row
 of number = at number 0 0
-
-abbrev pub none : Row
-none = of 0
-
--- row 0 and no other
-abbrev pub is_row_none : ℕ → Bool
-is_row_none zero = true
-is_row_none (suc n) = false
-
-unfoldable pub is_none : Row → Bool
-is_none r = is_row_none r.number
 
 -- ---- the kinds of refusal, by number, view and index
 

@@ -2,21 +2,20 @@
 // made by `oracle/compare --sample`; the proved call of the C interface has to give the same, bit for bit.
 #![tactic(auto)]
 
-mod calls;
 mod files;
 mod matrices;
 mod numbers;
 mod points;
 mod steps;
 mod systems;
-mod tally;
 
 use std::io;
 
 fn main(rt: HostRuntime) -> io::Result<()> {
-    numbers::replay(&rt)?;
-    matrices::replay(&rt)?;
-    points::replay(&rt)?;
-    systems::replay(&rt)?;
-    steps::replay(&rt)
+    let mut room = [0; files::ROOM];
+    numbers::replay(&rt, &mut room)?;
+    matrices::replay(&rt, &mut room)?;
+    points::replay(&rt, &mut room)?;
+    systems::replay(&rt, &mut room)?;
+    steps::replay(&rt, &mut room)
 }

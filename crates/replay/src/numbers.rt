@@ -1,31 +1,60 @@
 // The calls of `number`, `extrema` and `root`.
-use crate::calls::give;
-use crate::{calls, files};
+use crate::files::{self, Stored, give};
+use cases::MOST;
 use std::io;
 use std::rt::Files;
-use vectors::entry;
 
-pub fn replay(rt: &(impl Files + Print)) -> io::Result<()> {
+pub fn replay(rt: &(impl Files + Print), room: &mut [u8]) -> io::Result<()> {
     files::replay(
         rt,
-        b"sqrt.txt abs.txt recip.txt is_finite.txt max.txt min.txt to_bits.txt from_bits.txt",
-        &[1, 1, 1, 1, 2, 2, 1, 1],
-        &[1, 1, 1, 1, 1, 1, 1, 1],
-        calls::NUMBERS,
+        room,
+        Stored::new("sqrt.txt", 1, 1),
+        |x: &[f64; MOST], out: &mut [f64]| { give(root::sqrt(x[0]), out) },
+    )?;
+    files::replay(
+        rt,
+        room,
+        Stored::new("abs.txt", 1, 1),
+        |x: &[f64; MOST], out: &mut [f64]| { give(number::abs(x[0]), out) },
+    )?;
+    files::replay(
+        rt,
+        room,
+        Stored::new("recip.txt", 1, 1),
+        |x: &[f64; MOST], out: &mut [f64]| { give(number::recip(x[0]), out) },
+    )?;
+    files::replay(
+        rt,
+        room,
+        Stored::new("is_finite.txt", 1, 1),
+        |x: &[f64; MOST], out: &mut [f64]| {
+            let finite = number::is_finite(x[0]);
+            give(number::from_bits(u64::from(finite)), out)
+        },
+    )?;
+    files::replay(
+        rt,
+        room,
+        Stored::new("max.txt", 2, 1),
+        |x: &[f64; MOST], out: &mut [f64]| { give(extrema::max(x[0], x[1]), out) },
+    )?;
+    files::replay(
+        rt,
+        room,
+        Stored::new("min.txt", 2, 1),
+        |x: &[f64; MOST], out: &mut [f64]| { give(extrema::min(x[0], x[1]), out) },
+    )?;
+    files::replay(
+        rt,
+        room,
+        Stored::new("to_bits.txt", 1, 1),
+        |x: &[f64; MOST], out: &mut [f64]| { give(number::from_bits(number::to_bits(x[0])), out) },
+    )?;
+    // The reader has called `from_bits` on each word.
+    files::replay(
+        rt,
+        room,
+        Stored::new("from_bits.txt", 1, 1),
+        |x: &[f64; MOST], out: &mut [f64]| { give(x[0], out) },
     )
-}
-
-// The reader has called `from_bits` on each word.
-pub fn answer(call: usize, x: &[f64], out: &mut [f64]) -> u64 {
-    let a = entry(x, 0);
-    match call {
-        0 => give(root::sqrt(a), out),
-        1 => give(number::abs(a), out),
-        2 => give(number::recip(a), out),
-        3 => give(number::from_bits(number::is_finite(a) as u64), out),
-        4 => give(extrema::max(a, entry(x, 1)), out),
-        5 => give(extrema::min(a, entry(x, 1)), out),
-        6 => give(number::from_bits(number::to_bits(a)), out),
-        _ => give(a, out),
-    }
 }

@@ -1,27 +1,32 @@
 // The calls of `block_calls`.
-use crate::calls::part;
-use crate::{calls, files};
+use crate::files::{self, Stored};
+use cases::MOST;
 use std::io;
 use std::rt::Files;
-use vectors::entry;
 
-pub fn replay(rt: &(impl Files + Print)) -> io::Result<()> {
+pub fn replay(rt: &(impl Files + Print), room: &mut [u8]) -> io::Result<()> {
     files::replay(
         rt,
-        b"pixel_projection.txt linearize_point.txt point_step_with_damping_norm.txt",
-        &[10, 37, 65],
-        &[8, 59, 4],
-        calls::POINTS,
+        room,
+        Stored::new("pixel_projection.txt", 10, 8),
+        |x: &[f64; MOST], out: &mut [f64]| {
+            block_calls::pixel_projection(&x[..5], &x[5..7], &x[7..10], out)
+        },
+    )?;
+    files::replay(
+        rt,
+        room,
+        Stored::new("linearize_point.txt", 37, 59),
+        |x: &[f64; MOST], out: &mut [f64]| {
+            block_calls::linearize_point(&x[..29], &x[29..37], out)
+        },
+    )?;
+    files::replay(
+        rt,
+        room,
+        Stored::new("point_step_with_damping_norm.txt", 65, 4),
+        |x: &[f64; MOST], out: &mut [f64]| {
+            block_calls::point_step_with_damping_norm(&x[..59], x[59], &x[60..65], out)
+        },
     )
-}
-
-pub fn answer(call: usize, x: &[f64], out: &mut [f64]) -> u64 {
-    match call {
-        0 => block_calls::pixel_projection(part(x, 0, 5), part(x, 5, 7), part(x, 7, 10), out),
-        1 => block_calls::linearize_point(part(x, 0, 29), part(x, 29, 37), out),
-        _ => {
-            let block = part(x, 0, 59);
-            block_calls::point_step_with_damping_norm(block, entry(x, 59), part(x, 60, 65), out)
-        }
-    }
 }

@@ -1,44 +1,36 @@
 // The calls of `step_calls`; the whole step has five points.
-use crate::calls::{part, pattern};
-use crate::{calls, files};
+use crate::files::{self, Stored, pattern};
+use cases::MOST;
 use std::io;
 use std::rt::Files;
-use vectors::entry;
 
-pub fn replay(rt: &(impl Files + Print)) -> io::Result<()> {
+pub fn replay(rt: &(impl Files + Print), room: &mut [u8]) -> io::Result<()> {
+    files::replay(rt, room, Stored::new("step.txt", 70, 28), step)?;
     files::replay(
         rt,
-        b"step.txt limit_pose_step.txt",
-        &[70, 5],
-        &[28, 5],
-        calls::STEPS,
+        room,
+        Stored::new("limit_pose_step.txt", 5, 5),
+        |x: &[f64; MOST], out: &mut [f64]| { step_calls::limit_pose_step(&x[..5], out) },
     )
 }
 
-pub fn answer(call: usize, x: &[f64], out: &mut [f64]) -> u64 {
-    match call {
-        0 => step(x, out),
-        _ => step_calls::limit_pose_step(part(x, 0, 5), out),
-    }
-}
-
-fn step(x: &[f64], out: &mut [f64]) -> u64 {
+fn step(x: &[f64; MOST], out: &mut [f64]) -> u64 {
     let mut room = [0.0; 15];
     let mut values = [0.0; 12];
-    let mut weak = [0u16; 1];
+    let mut weak = [0; 1];
     let code = step_calls::step(
-        part(x, 0, 15),
-        part(x, 15, 25),
-        part(x, 25, 35),
-        part(x, 35, 40),
-        part(x, 40, 69),
-        entry(x, 69),
+        &x[..15],
+        &x[15..25],
+        &x[25..35],
+        &x[35..40],
+        &x[40..69],
+        x[69],
         &mut room,
         &mut values,
         &mut weak,
     );
     slices::copy(&room, 0, out);
     slices::copy(&values, 15, out);
-    slices::copy(&[pattern(weak[0])], 27, out);
+    slices::copy(&weak.map(pattern), 27, out);
     code
 }

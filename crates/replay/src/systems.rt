@@ -1,79 +1,100 @@
-// The calls of `system_calls`. A system is 45 numbers and three counts.
-use crate::calls::{give, part, pattern};
-use crate::{calls, files};
+// The calls of `system_calls`.
+use crate::files::{self, Stored, pattern};
+use cases::MOST;
 use std::io;
 use std::rt::Files;
-use vectors::entry;
 
-pub fn replay(rt: &(impl Files + Print)) -> io::Result<()> {
+// A system as its calls have it: 45 numbers and three counts
+#[derive(Drop)]
+struct System {
+    numbers: [f64; 45],
+    counts: [u16; 3],
+}
+
+pub fn replay(rt: &(impl Files + Print), room: &mut [u8]) -> io::Result<()> {
+    files::replay(rt, room, Stored::new("system_new.txt", 48, 48), new)?;
+    files::replay(rt, room, Stored::new("system_add.txt", 108, 48), add)?;
     files::replay(
         rt,
-        b"system_new.txt system_add.txt system_finish_damping.txt system_is_valid.txt system_scaled_gradient_inf_norm.txt system_predicted_reduction.txt",
-        &[48, 108, 49, 48, 48, 55],
-        &[48, 48, 48, 1, 1, 1],
-        calls::SYSTEMS,
+        room,
+        Stored::new("system_finish_damping.txt", 49, 48),
+        finish_damping,
+    )?;
+    files::replay(
+        rt,
+        room,
+        Stored::new("system_is_valid.txt", 48, 1),
+        is_valid,
+    )?;
+    files::replay(
+        rt,
+        room,
+        Stored::new("system_scaled_gradient_inf_norm.txt", 48, 1),
+        |x: &[f64; MOST], out: &mut [f64]| {
+            let system = System::of(x);
+            system_calls::system_scaled_gradient_inf_norm(&system.numbers, &system.counts, out)
+        },
+    )?;
+    files::replay(
+        rt,
+        room,
+        Stored::new("system_predicted_reduction.txt", 55, 1),
+        predicted_reduction,
     )
 }
 
-pub fn answer(call: usize, x: &[f64], out: &mut [f64]) -> u64 {
-    if call < 3 {
-        return change(call, x, out);
-    }
-    let system = part(x, 0, 45);
-    let counts = counts(x);
-    match call {
-        3 => is_valid(system, counts, out),
-        4 => system_calls::system_scaled_gradient_inf_norm(system, &counts, out),
-        _ => {
-            let step = part(x, 48, 53);
-            let damping = entry(x, 53);
-            let norm = entry(x, 54);
-            system_calls::system_predicted_reduction(system, &counts, step, damping, norm, out)
-        }
-    }
-}
-
-// The calls that change the system
-fn change(call: usize, x: &[f64], out: &mut [f64]) -> u64 {
-    let mut system = [0.0; 45];
-    slices::copy(part(x, 0, 45), 0, &mut system);
-    let mut counts = counts(x);
-    let code = match call {
-        0 => system_calls::system_new(&mut system, &mut counts),
-        1 => {
-            let block = part(x, 48, 107);
-            system_calls::system_add(&mut system, &mut counts, block, entry(x, 107))
-        }
-        _ => system_calls::system_finish_damping(&mut system, &mut counts, entry(x, 48)),
-    };
-    put(&system, counts, out);
+fn new(x: &[f64; MOST], out: &mut [f64]) -> u64 {
+    let mut system = System::of(x);
+    let code = system_calls::system_new(&mut system.numbers, &mut system.counts);
+    system.put(out);
     code
 }
 
-fn put(system: &[f64; 45], counts: [u16; 3], out: &mut [f64]) {
-    slices::copy(system, 0, out);
-    slices::copy(&patterns(counts), 45, out);
-}
-
-fn is_valid(system: &[f64], counts: [u16; 3], out: &mut [f64]) -> u64 {
-    let mut valid = [0u16; 1];
-    let code = system_calls::system_is_valid(system, &counts, &mut valid);
-    give(pattern(valid[0]), out);
+fn add(x: &[f64; MOST], out: &mut [f64]) -> u64 {
+    let mut system = System::of(x);
+    let numbers = &mut system.numbers;
+    let code = system_calls::system_add(numbers, &mut system.counts, &x[48..107], x[107]);
+    system.put(out);
     code
 }
 
-fn counts(x: &[f64]) -> [u16; 3] {
-    [
-        count(entry(x, 45)),
-        count(entry(x, 46)),
-        count(entry(x, 47)),
-    ]
+fn finish_damping(x: &[f64; MOST], out: &mut [f64]) -> u64 {
+    let mut system = System::of(x);
+    let numbers = &mut system.numbers;
+    let code = system_calls::system_finish_damping(numbers, &mut system.counts, x[48]);
+    system.put(out);
+    code
 }
 
+fn is_valid(x: &[f64; MOST], out: &mut [f64]) -> u64 {
+    let system = System::of(x);
+    let mut valid = [0; 1];
+    let code = system_calls::system_is_valid(&system.numbers, &system.counts, &mut valid);
+    slices::copy(&valid.map(pattern), 0, out);
+    code
+}
+
+fn predicted_reduction(x: &[f64; MOST], out: &mut [f64]) -> u64 {
+    let System { numbers, counts } = System::of(x);
+    system_calls::system_predicted_reduction(&numbers, &counts, &x[48..53], x[53], x[54], out)
+}
+
+impl System {
+    // The system that the inputs begin with
+    fn of(x: &[f64]) -> Self {
+        Self {
+            numbers: slices::vector(x, 0),
+            counts: slices::vector(x, 45).map(count),
+        }
+    }
+
+    fn put(self, out: &mut [f64]) {
+        slices::copy(&self.numbers, 0, out);
+        slices::copy(&self.counts.map(pattern), 45, out);
+    }
+}
+
+// A count of the pattern of a number
 fn count(x: f64) -> u16 {
     (number::to_bits(x) % 65536) as u16
-}
-
-fn patterns(counts: [u16; 3]) -> [f64; 3] {
-    [pattern(counts[0]), pattern(counts[1]), pattern(counts[2])]
 }

@@ -20,9 +20,7 @@ pub fn end(rt: &impl Print) -> io::Result<()> {
 }
 
 pub fn pattern(rt: &impl Print, b: u64) -> io::Result<()> {
-    rt.write_all(b" ")?;
-    let digits = hex_digits::digits(b);
-    rt.write_all(&digits)
+    print!(rt; " {b:016X}")
 }
 
 pub fn patterns(rt: &impl Print, values: &[f64]) -> io::Result<()> {

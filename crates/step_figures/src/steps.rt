@@ -2,8 +2,9 @@
 // each other met at once, where the earlier one is given.
 ghost use Rattle.std.specs.Prelude.{◌≡◌, ◌≤◌, length};
 
-use correspondences::Rig;
+use correspondences::{Problem as Lent, Rig};
 use projection::PinholeCamera;
+use refusal::Refusal;
 use std::io;
 use step_result::StepResult;
 use views::Pose;
@@ -138,16 +139,15 @@ fn stepped(rt: &impl Print, name: &[u8], p: Problem, n: usize, in_view1: usize) 
     let view2 = [1.0, 0.0, 2.0, 0.0, 0.0, 0.0, p.seen, 1.0, 1.0, -1.0];
     let deviations = [1.0, 1.0, p.deviation, 1.0, 1.0];
     let mut room = [0.0; 15];
-    let done = optimizer::step(
-        &points[0..3 * n],
-        &view1[0..in_view1],
-        &view2[0..2 * n],
-        &deviations[0..n],
-        rig(p),
-        p.damping,
-        &mut room[0..3 * n],
-    );
-    show_step(rt, name, done)
+    let lent = Lent {
+        points: &points[0..3 * n],
+        view1: &view1[0..in_view1],
+        view2: &view2[0..2 * n],
+        inverse_deviations: &deviations[0..n],
+        rig: rig(p),
+        damping: p.damping,
+    };
+    show_step(rt, name, optimizer::step(&lent, &mut room[0..3 * n]))
 }
 
 // 65,536 points, and so many numbers in view 1
@@ -156,42 +156,24 @@ fn many(rt: &impl Print, name: &[u8], in_view1: usize, damping: f64) -> io::Resu
 {
     let zeros = [0.0; 196608];
     let mut room = [0.0; 196608];
-    show_step(
-        rt,
-        name,
-        step_of_zeros(&zeros, in_view1, 131072, 65536, damping, &mut room),
-    )
-}
-
-fn step_of_zeros(
-    zeros: &[f64],
-    in_view1: usize,
-    in_view2: usize,
-    n: usize,
-    damping: f64,
-    room: &mut [f64],
-) -> StepResult
-    requires { (length zeros.now ≡ 196608) × (in_view1 ≤ 196608) × (in_view2 ≤ 196608) × (n ≤ 196608) }
-{
-    optimizer::step(
-        zeros,
-        &zeros[0..in_view1],
-        &zeros[0..in_view2],
-        &zeros[0..n],
-        rig(sound()),
+    let lent = Lent {
+        points: &zeros,
+        view1: &zeros[0..in_view1],
+        view2: &zeros[0..131072],
+        inverse_deviations: &zeros[0..65536],
+        rig: rig(sound()),
         damping,
-        room,
-    )
+    };
+    show_step(rt, name, optimizer::step(&lent, &mut room))
 }
 
 // The refusal, or cost and squared residual
-fn show_step(rt: &impl Print, name: &[u8], done: StepResult) -> io::Result<()> {
+fn show_step(rt: &impl Print, name: &[u8], done: Result<StepResult, Refusal>) -> io::Result<()> {
     show::text(rt, name)?;
     show::text(rt, b":")?;
-    let refusal = done.refusal;
-    if refusal.is_none() {
-        show::patterns(rt, &[done.cost, done.squared_residual])?;
+    match done {
+        Ok(step) => show::patterns(rt, &[step.cost, step.squared_residual])?,
+        Err(refusal) => show::refused(rt, refusal)?,
     }
-    show::refused_if(rt, refusal)?;
     show::end(rt)
 }

@@ -1,2 +1,0 @@
--- The law of a record's list.
-pub mod Laws
