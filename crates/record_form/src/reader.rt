@@ -30,6 +30,7 @@ impl<'a> Reader<'a> {
     }
 
     // Row 15 for each point's field
+    #[tactic(auto, using(refusal::proofs::Scans::leaves, refusal::proofs::Scans::goes_on, refusal::proofs::Scans::ends))]
     pub(crate) fn check_points(&mut self) -> Result<(), Refusal>
         requires place { self.old.at ≡ Fields.points_at }
         requires fits { length self.old.«record».now ≤ Form.max_record }
