@@ -1,8 +1,8 @@
 -- Roots of whole numbers: Heron's mean, the whole part of a root, and the nearest whole number to one. Assumes nothing.
 use mathlib.Core.Path.{◌≡◌, sym, subst, ◌∙◌}
 use mathlib.Core.Bool.{Bool, true, false, not, cond}
-use Prim.Native.Nat.{ℕ, zero, suc, ◌+◌, ◌-◌, ◌*◌, ◌/◌, ◌%◌, ◌^◌, ◌≤◌, ◌<◌, compare, Ordering}
-use native.Mathlib.Nat.{le_dest, lt_of_lt_of_le, lt-suc_self, mul-le-mul_left, mul-le-mul_right, mul-le-mul, mul-add, add-mul, mul_comm, mul_assoc, mul_left_comm, add_assoc, add_comm, add_left_comm, div-lt_iff_lt-mul, div-le_of_le-mul, div-add-mod', mod-lt, le_antisymm, one-mul, mul-one, mul-suc, suc-mul, pow-suc, le_of_mul-le-mul_right, eq_of_mul-eq-mul_right, lt_of_mul-lt-mul_right}
+use Prim.Native.Nat.{ℕ, zero, suc, ◌+◌, ◌-◌, ◌*◌, ◌/◌, ◌^◌, ◌≤◌, ◌<◌, compare, Ordering}
+use native.Mathlib.Nat.{le_dest, lt_of_lt_of_le, lt-suc_self, mul-le-mul_left, mul-le-mul_right, mul-le-mul, mul-add, add-mul, mul_comm, mul_assoc, mul_left_comm, add_assoc, add_comm, add_left_comm, div-lt_iff_lt-mul, le_antisymm, one-mul, mul-one, mul-suc, suc-mul, pow-suc, le_of_mul-le-mul_right, eq_of_mul-eq-mul_right, lt_of_mul-lt-mul_right}
 use native.Mathlib.Numerals.{add-one}
 use native.Mathlib.Omega.{arith}
 use lib.Dec.{T, is_le, compare_is_eq, leb, leb→le, nleb→lt, eqb→eq, lit<}
@@ -62,76 +62,6 @@ whole_high d r h w = square_lt r (2 ^ 27) (let n = w.reached in omega arith)
 
 pub next_square : (r : ℕ) → (r + 1) * (r + 1) ≡ r * r + 2 * r + 1
 next_square r = simp sorted (let e : r * r + (r + (r + 1)) ≡ r * r + (1 + 2 * r) = omega arith in omega arith)
-
-shifted_square : (a b c : ℕ) → (a * c + b) * (a * c + b) ≡ a * a * (c * c) + b * a * (c + c) + b * b
-shifted_square a b c = simp sorted
-
--- what is left of d after the square of its root: its square's rest, at most twice the root
-rest_le : (d h : ℕ) → WholeRoot d h → d - h * h ≤ 2 * h
-rest_le d h w = let n = w.next in let s = next_square h in omega arith
-
-module _ (d h : ℕ) (w : WholeRoot d h) (big : 2 ^ 52 ≤ d) where
-  abbrev rest : ℕ
-  rest = (d - h * h) * 0x200_0000
-
-  abbrev low : ℕ
-  low = rest / h
-
-  abbrev left : ℕ
-  left = rest % h
-
-  abbrev root : ℕ
-  root = h * 0x400_0000 + low
-
-  pub low_le : low ≤ 0x400_0000
-  low_le = div-le_of_le-mul h (let r = rest_le d h w in omega arith)
-
-  -- root ^ 2 + left * 2 ^ 27 is d * 2 ^ 52 + low ^ 2
-  balance : root * root + left * 0x800_0000 ≡ d * 2 ^ 52 + low * low
-  balance =
-      let e = shifted_square h low 0x400_0000 in
-      let s : low * h + left ≡ rest = div-add-mod' rest h in
-      let r = w.reached in
-      omega arith
-
-  low_square_lt : low * low < root
-  low_square_lt =
-      let c : low * low ≤ low * 0x400_0000 = mul-le-mul_left low low_le in
-      let l = low_le in
-      let b = whole_low d h big w in
-      omega arith
-
-  pub root_below : left * 0x800_0000 ≤ root + low * low → NearestRoot (d * 2 ^ 52) root
-  root_below t = let e = balance in let s = low_square_lt in record { low = omega arith; high = omega arith }
-
-  pub root_above : root + low * low < left * 0x800_0000 → NearestRoot (d * 2 ^ 52) (root + 1)
-  root_above t =
-      let e = balance in
-      let q = next_square root in
-      let b = whole_low d h big w in
-      let m : left < h = mod-lt rest (omega arith) in
-      record { low = omega arith; high = omega arith }
-
-  -- how large each step's result is
-  pub record Sizes : Type 0 where
-    pub low_root : 2 ^ 26 ≤ h
-    pub high_root : h < 2 ^ 27
-    pub remainder : d - h * h ≤ 2 * h
-    pub quotient : low ≤ 2 ^ 26
-    pub square : low * low ≤ 2 ^ 52
-    pub left_over : left < h
-
-  pub sizes : d < 2 ^ 54 → Sizes
-  sizes D =
-      let l = whole_low d h big w in
-      record {
-        low_root = l;
-        high_root = whole_high d h D w;
-        remainder = rest_le d h w;
-        quotient = low_le;
-        square = let c : low * low ≤ low * 0x400_0000 = mul-le-mul_left low low_le in let k = low_le in omega arith;
-        left_over = mod-lt rest (omega arith);
-      }
 
 -- ---- the nearest root is one number
 

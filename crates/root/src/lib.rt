@@ -68,6 +68,7 @@ fn nearest_root(d: u64) -> u64
 
 // For a d near an end of its range: its root lies half as far, by its size, from 2 ^ 52 or 2 ^ 53 as d
 // does from 2 ^ 52 or 2 ^ 54.
+#[tactic(auto, using(crate::proofs::Whole::root_over, crate::proofs::Whole::root_under))]
 fn root_near_one(d: u64) -> u64
     requires { (2 ^ 52 ≤ d) × (d < 2 ^ 54) × ((d < 2 ^ 52 + 2 ^ 26) ⊎ (2 ^ 54 - 2 ^ 26 < d)) }
     ensures { NearestRoot (d * 2 ^ 52) result }
