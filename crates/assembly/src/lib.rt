@@ -33,7 +33,9 @@ fn damped_system(problem: &Problem) -> ReducedSystem
     let mut system = ReducedSystem::new();
     for i in 0..problem.count() {
         let local = block_of(problem.rig, problem.correspondence_at(i as u32));
-        system = schur::add(system, local, problem.damping).unwrap_or(system);
+        if let Ok(next) = schur::add(system, local, problem.damping) {
+            system = next;
+        }
     }
     system.finish_damping(problem.damping).unwrap_or(system)
 }
@@ -44,5 +46,8 @@ fn damped_system(problem: &Problem) -> ReducedSystem
 pub fn block_of(rig: Rig, correspondence: Correspondence) -> LocalLinearization
     ensures { result ≡ Assembly.block_of rig correspondence }
 {
-    linearization::linearize_point(rig, correspondence).unwrap_or(linearization::NO_BLOCK)
+    match linearization::linearize_point(rig, correspondence) {
+        Ok(local) => local,
+        Err(_) => linearization::NO_BLOCK,
+    }
 }

@@ -1,7 +1,7 @@
 // The bytes of a run record, and where its fields begin: document 01, "Run record and its list".
 #![tactic(auto)]
 
-ghost use Rattle.std.specs.Prelude.{◌≡◌, ◌+◌, ◌<◌, ◌^◌};
+ghost use Rattle.std.specs.Prelude.{◌≡◌, drop};
 ghost use Rattle.fields.specs.Fields as Fields;
 
 use std::array;
@@ -87,10 +87,17 @@ pub fn byte_at(record: &[u8], at: usize) -> u8
 
 // The bytes from an offset on; 0 beyond the end
 pub fn bytes_at<const N: usize>(record: &[u8], at: usize) -> [u8; N]
-    requires { at + N < 2 ^ 64 }
     ensures { result ≡ Fields.bytes «record».now at N }
 {
-    array::from_fn(|i| byte_at(record, at + i))
+    let bytes = rest(record, at);
+    array::from_fn(|i| byte_at(bytes, i))
+}
+
+// What is left of the record from an offset on
+fn rest(record: &[u8], at: usize) -> &[u8]
+    ensures { result.now ≡ drop at «record».now }
+{
+    record.get(at..).unwrap_or(&[])
 }
 
 // How many point fields begin before the end

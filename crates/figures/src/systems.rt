@@ -23,7 +23,7 @@ pub fn print(rt: &impl Print) -> io::Result<()> {
         number::from_bits(0x7FF0_0000_0000_0000),
     )?;
     scaled(rt, b"gradient norm by a diagonal of 4", 1.0, 4.0)?;
-    scaled(rt, b"gradient norm of a NaN", 0.0 / 0.0, 4.0)?;
+    scaled(rt, b"gradient norm of a NaN", f64::NAN, 4.0)?;
     floored(rt)
 }
 

@@ -2,6 +2,10 @@
 // Each line has a figure of the one, then of the other, as patterns of sixteen capital digits: the two columns have to be equal.
 #![tactic(auto)]
 
+ghost use Rattle.std.specs.Prelude.{◌≡◌};
+ghost use Rattle.std.specs.Result.{result_err};
+ghost use Rattle.list_of_adds.specs.System as System;
+
 use linearization::LocalLinearization;
 use projection::PinholeCamera;
 use reduced_system::ReducedSystem;
@@ -66,14 +70,26 @@ fn block(x: f64, y: f64, z: f64) -> LocalLinearization {
 
 // A line: the two refusals' numbers, 0 where there is none
 fn added(rt: &impl Print, both: Both, local: LocalLinearization, damping: f64) -> io::Result<Both> {
-    let mut lent = both.lent;
-    let one = in_place::add_to(&mut lent, local, damping);
+    let (lent, one) = added_in_place(both.lent, local, damping);
     let two = schur::add(both.by_value, local, damping);
     pair(rt, b"refusal", row(one.err()), row(two.err()))?;
     Ok(Both {
         lent,
         by_value: two.unwrap_or(both.by_value),
     })
+}
+
+// Lends the system.
+fn added_in_place(
+    mut system: ReducedSystem,
+    local: LocalLinearization,
+    damping: f64,
+) -> (ReducedSystem, Result<(), Refusal>)
+    ensures system { result.0 ≡ System.handed_back system (System.add system local damping) }
+    ensures refusal { result_err result.1 ≡ result_err (System.add system local damping) }
+{
+    let answered = in_place::add_to(&mut system, local, damping);
+    (system, answered)
 }
 
 fn row(refusal: Option<Refusal>) -> u64 {

@@ -33,6 +33,6 @@ abbrev pub tabulate : ℕ → (ℕ → Float) → List Float
 tabulate zero· f = []
 tabulate (suc n) f = f 0 ∷ tabulate n (λ i. f (suc i))
 
--- n zeros, such as stand beside a refusal
+-- n zeros
 abbrev pub zeros : ℕ → List Float
 zeros n = tabulate n (λ i. zero)

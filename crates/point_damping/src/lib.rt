@@ -26,7 +26,7 @@ pub fn damped_matrix(matrix: [f64; 9], damping: f64) -> Result<[f64; 9], Refusal
     Ok(added_diagonal(matrix, damping, diagonal))
 }
 
-// What damping is multiplied with. Row 10 where no diagonal entry is positive and finite.
+// What damping is multiplied with. Row 10 where the largest diagonal entry is not positive and finite.
 #[tactic(auto, unfolding(crate::specs::Damping::damping_diagonal))]
 pub fn damping_diagonal(matrix: [f64; 9]) -> Result<[f64; 3], Refusal>
     ensures { result ≡ Damping.damping_diagonal matrix }

@@ -29,7 +29,7 @@ pub fn sqrt(x: f64) -> f64
         }
         return x;
     }
-    if x < 0.0 { 0.0 / 0.0 } else { x }
+    if x < 0.0 { f64::NAN } else { x }
 }
 
 // The pattern of the root of the value with the pattern b, which is finite and above zero.

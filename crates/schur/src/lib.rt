@@ -27,10 +27,10 @@ pub fn add(
     if !point_damping::good_damping(damping) {
         return Err(Refusal::Damping);
     }
-    if !(system.weak_point_count <= system.block_count) {
+    if system.weak_point_count > system.block_count {
         return Err(Refusal::WeakCount);
     }
-    if !(system.block_count < MAX_BLOCKS) {
+    if system.block_count >= MAX_BLOCKS {
         return Err(Refusal::Full);
     }
     Ok(taken(system, local, damping))

@@ -60,7 +60,7 @@ fn values(rt: &impl Print) -> io::Result<()> {
     stepped(rt, b"step, rows 4 and 5", p, 5, 10)?;
     p.deviation = 1.0;
     stepped(rt, b"step, baseline 2^-46", p, 5, 10)?;
-    p.x = 0.0 / 0.0;
+    p.x = f64::NAN;
     stepped(rt, b"step, rows 5 and 6", p, 5, 10)?;
     p.baseline = 1.0;
     stepped(rt, b"step, NaN at index 0", p, 5, 10)?;

@@ -6,11 +6,12 @@ use native.Mathlib.Nat.{zero-lt-suc, mul-pos, mul-one, zero-mul, add-zero}
 use native.Mathlib.Omega.{arith}
 use borrow.Author.Tests.{lt-ltb, le-ltb}
 use lib.Dec.{T, leb, ltb, eqb, nleb→lt}
-use lib.Ieee.{Float, nan, inf, fin, binary64, fits, is_nan, lt, div, odd, of_bits, of_fields, to_bits, nan_bits, up, down}
+use lib.Ieee.{Float, nan, inf, fin, binary64, fits, is_nan, lt, odd, of_bits, of_fields, to_bits, nan_bits, up, down}
 use lib.Ieee.Bits.{of_bits-to_bits, nan_bits_is}
 use lib.Ieee.Fits.{up_pos}
 use Rattle.number.specs.Binary64 as Binary64
 use Rattle.number.specs.Parts.{is_finite}
+use Rattle.number.proofs.Specials.{nan_of_pattern}
 use Rattle.root.specs.Root.{sqrt, CorrectlyRounded}
 use Rattle.root.proofs.Patterns.{plain_finite}
 use Rattle.root.proofs.Correct.{sqrt_correct}
@@ -97,8 +98,8 @@ no_sum a d = simp zero-mul
 some_sum : (m a d : ℕ) → 0 < a → ltb 0 (suc m * a * 1 + 0 * d) ≡ true
 some_sum m a d p = rw (mul-one, zero-mul, add-zero) (lt-ltb 0 (suc m * a) (mul-pos (zero-lt-suc m) p))
 
-negative_root : (x : Float) → lt x Binary64.zero ≡ true → div binary64 Binary64.zero Binary64.zero ≡ sqrt x
-unfolding lt of_bits div sqrt
+negative_root : (x : Float) → lt x Binary64.zero ≡ true → nan ≡ sqrt x
+unfolding lt of_bits sqrt
 negative_root nan l = refl
 negative_root (inf true) l = refl
 negative_root (inf false) l = absurd (false≢true l)
@@ -151,7 +152,7 @@ pub returns-then-x : goal.returns-then-x
 returns-then-x c = infinite c.args.x (held _ c.well_formed.0.1) c.if-b-lt-INFINITY.false c.if-x.true
 
 pub returns-then-x-2 : goal.returns-then-x-2
-returns-then-x-2 c = negative_root c.args.x c.if-x-2.true
+returns-then-x-2 c = nan_of_pattern ∙ negative_root c.args.x c.if-x-2.true
 
 pub returns-else-x-2 : goal.returns-else-x-2
 returns-else-x-2 c = zero_root c.args.x c.if-x.false c.if-x-2.false
