@@ -9,16 +9,19 @@ use std::array;
 // A field is a tag, a length in two bytes, and the payload.
 pub const HEAD_SIZE: usize = 3;
 
+// The bytes of a number
+pub const NUMBER_SIZE: usize = 8;
+
 // The bytes of the payloads
-pub const CAMERA_SIZE: usize = 40;
+const CAMERA_SIZE: usize = 5 * NUMBER_SIZE;
 
-pub const POSE_SIZE: usize = 96;
+const POSE_SIZE: usize = 12 * NUMBER_SIZE;
 
-pub const BASIS_SIZE: usize = 56;
+const BASIS_SIZE: usize = 7 * NUMBER_SIZE;
 
-pub const DAMPING_SIZE: usize = 8;
+const DAMPING_SIZE: usize = NUMBER_SIZE;
 
-pub const POINT_SIZE: usize = 64;
+const POINT_SIZE: usize = 8 * NUMBER_SIZE;
 
 // Where the fields begin
 pub const CAMERA1_AT: usize = 0;
@@ -35,6 +38,45 @@ pub const POINTS_AT: usize = DAMPING_AT + HEAD_SIZE + DAMPING_SIZE;
 
 // From a point's field to the next
 pub const POINT_STRIDE: usize = HEAD_SIZE + POINT_SIZE;
+
+#[derive(Clone, Copy, Debug, PartialEq, Eq)]
+pub enum Field {
+    Camera1,
+    Camera2,
+    Pose,
+    Basis,
+    Damping,
+    Point,
+}
+
+impl Field {
+    // The byte that the field begins with
+    pub fn tag(self) -> u8
+        ensures { result ≡ Fields.tag self }
+    {
+        match self {
+            Field::Camera1 => 1,
+            Field::Camera2 => 2,
+            Field::Pose => 3,
+            Field::Basis => 4,
+            Field::Damping => 5,
+            Field::Point => 6,
+        }
+    }
+
+    // The bytes of the payload
+    pub fn size(self) -> usize
+        ensures { result ≡ Fields.size self }
+    {
+        match self {
+            Field::Camera1 | Field::Camera2 => CAMERA_SIZE,
+            Field::Pose => POSE_SIZE,
+            Field::Basis => BASIS_SIZE,
+            Field::Damping => DAMPING_SIZE,
+            Field::Point => POINT_SIZE,
+        }
+    }
+}
 
 // The byte at an offset; 0 beyond the end
 pub fn byte_at(record: &[u8], at: usize) -> u8

@@ -5,7 +5,7 @@ ghost use Rattle.fields.specs.Fields as Fields;
 ghost use Rattle.record_form.specs.Form as Form;
 ghost use Rattle.run.specs.Run as Run;
 
-use fields::{HEAD_SIZE, POINT_STRIDE, POINTS_AT};
+use fields::{HEAD_SIZE, NUMBER_SIZE, POINT_STRIDE, POINTS_AT};
 
 // The most points of a record
 const MAX_POINTS: usize = 512;
@@ -30,5 +30,5 @@ fn number_of(record: &[u8], first: usize, each: usize, j: usize) -> f64
     ensures { result ≡ Run.column «record».now first each j }
 {
     let point = POINTS_AT + HEAD_SIZE + first + POINT_STRIDE * (j / each);
-    run::number_at(record, (point + 8 * (j % each)) as u32)
+    run::number_at(record, (point + NUMBER_SIZE * (j % each)) as u32)
 }

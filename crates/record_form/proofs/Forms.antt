@@ -13,7 +13,9 @@ use Rattle.std.specs.Int.{w16, from_le_bytes}
 use Rattle.refusal.specs.First.{unless, first}
 use Rattle.refusal.specs.declared.Refusal.TheVariants.{RecordTooLong}
 use Rattle.refusal.proofs.Scans.{after_ok, held, all_ok}
-use Rattle.fields.specs.Fields.{byte, bytes, point_at, point_fields, camera1_at, camera2_at, pose_at, basis_at}
+use Rattle.fields.specs.declared.Field.{Field}
+use Rattle.fields.specs.declared.Field.TheVariants.{Camera1, Camera2, Pose, Basis, Damping, Point}
+use Rattle.fields.specs.Fields.{tag, size, byte, bytes, point_at, point_fields, camera1_at, camera2_at, pose_at, basis_at, damping_at}
 use Rattle.record_form.specs.Form.{max_record, is_whole, check_field, check_header, check, Formed}
 
 -- a field's length, read low byte first
@@ -31,8 +33,8 @@ module _ (r : List ℕ) (tag size start : ℕ) where
       by true y z e = refl
       by false y z e = absurd (true≢false (sym e))
 
-  field_fits : check_field r tag size start ≡ Ok tt → start + 3 + size ≤ length r
-  field_fits e = whole_fits (held _ _ e)
+field_fits : (r : List ℕ) (field : Field) (start : ℕ) → check_field r field start ≡ Ok tt → start + 3 + size field ≤ length r
+field_fits r field start e = whole_fits r (tag field) (size field) start (held _ _ e)
 
 -- what rows 14 and 15 leave
 pub formed : (r : List ℕ) → check r ≡ Ok tt → Formed r
@@ -40,18 +42,18 @@ unfolding check
 formed r e =
     let long = after_ok (unless (leb (length r) max_record) RecordTooLong) _ e in
     let head = after_ok (check_header r) _ long.1 in
-    let c1 = after_ok (check_field r 1 40 camera1_at) _ head.0 in
-    let c2 = after_ok (check_field r 2 40 camera2_at) _ c1.1 in
-    let p = after_ok (check_field r 3 96 pose_at) _ c2.1 in
-    let b = after_ok (check_field r 4 56 basis_at) _ p.1 in
+    let c1 = after_ok (check_field r Camera1 camera1_at) _ head.0 in
+    let c2 = after_ok (check_field r Camera2 camera2_at) _ c1.1 in
+    let p = after_ok (check_field r Pose pose_at) _ c2.1 in
+    let b = after_ok (check_field r Basis basis_at) _ p.1 in
     let l : length r ≤ max_record = leb-true (length r) max_record (held (leb (length r) max_record) RecordTooLong long.0) in
-    let h : 255 ≤ length r = field_fits r 5 8 244 b.1 in
+    let h : 255 ≤ length r = field_fits r Damping damping_at b.1 in
     (by (point_fields r) refl h head.1, l)
   where
-    by : (n : ℕ) → n ≡ point_fields r → 255 ≤ length r → first (λ i. check_field r 6 64 (point_at i)) 0 n ≡ Ok tt → length r ≡ point_at n
+    by : (n : ℕ) → n ≡ point_fields r → 255 ≤ length r → first (λ i. check_field r Point (point_at i)) 0 n ≡ Ok tt → length r ≡ point_at n
     by zero q h f = omega (arith, q)
     by (suc n) q h f =
-        let k : 255 + 67 * n + 3 + 64 ≤ length r = field_fits r 6 64 (point_at n) (all_ok (λ i. check_field r 6 64 (point_at i)) (suc n) n (omega arith) f) in
+        let k : 255 + 67 * n + 3 + 64 ≤ length r = field_fits r Point (point_at n) (all_ok (λ i. check_field r Point (point_at i)) (suc n) n (omega arith) f) in
         omega (arith, q)
 
 -- a record of the right form has 512 points at most

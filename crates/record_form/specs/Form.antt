@@ -2,7 +2,9 @@
 use Rattle.std.specs.Prelude.{ℕ, ◌+◌, ◌*◌, ◌≤◌, ◌≡◌, Bool, ◌&&◌, List, [], ◌∷◌, eqb, leb, length}
 use Rattle.refusal.specs.First.{Checked, unless, first_of, first}
 use Rattle.refusal.specs.declared.Refusal.TheVariants.{RecordTooLong, RecordForm}
-use Rattle.fields.specs.Fields.{byte, camera1_at, camera2_at, pose_at, basis_at, damping_at, point_at, point_fields}
+use Rattle.fields.specs.declared.Field.{Field}
+use Rattle.fields.specs.declared.Field.TheVariants.{Camera1, Camera2, Pose, Basis, Damping, Point}
+use Rattle.fields.specs.Fields.{tag, size, byte, camera1_at, camera2_at, pose_at, basis_at, damping_at, point_at, point_fields}
 
 -- the most bytes of a record: 512 points
 abbrev pub max_record : ℕ
@@ -13,23 +15,23 @@ unfoldable pub is_whole : List ℕ → ℕ → ℕ → ℕ → Bool
 is_whole r tag size start = leb (start + 3 + size) (length r) && eqb (byte r start) tag && eqb (byte r (start + 1) + 256 * byte r (start + 2)) size
 
 -- row 15: the byte where the broken field begins, which is the record's length if it ends there
-abbrev pub check_field : List ℕ → ℕ → ℕ → ℕ → Checked
-check_field r tag size start = unless (is_whole r tag size start) (RecordForm start)
+abbrev pub check_field : List ℕ → Field → ℕ → Checked
+check_field r field start = unless (is_whole r (tag field) (size field) start) (RecordForm start)
 
 -- row 15 for the five fields before the points
 abbrev pub check_header : List ℕ → Checked
 check_header r =
     first_of (
-    check_field r 1 40 camera1_at
-    ∷ check_field r 2 40 camera2_at
-    ∷ check_field r 3 96 pose_at
-    ∷ check_field r 4 56 basis_at
-    ∷ check_field r 5 8 damping_at
+    check_field r Camera1 camera1_at
+    ∷ check_field r Camera2 camera2_at
+    ∷ check_field r Pose pose_at
+    ∷ check_field r Basis basis_at
+    ∷ check_field r Damping damping_at
     ∷ [])
 
 -- row 15 for the points' fields
 abbrev pub check_points : List ℕ → Checked
-check_points r = first (λ i. check_field r 6 64 (point_at i)) 0 (point_fields r)
+check_points r = first (λ i. check_field r Point (point_at i)) 0 (point_fields r)
 
 -- rows 14 and 15
 unfoldable pub check : List ℕ → Checked

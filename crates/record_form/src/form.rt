@@ -3,7 +3,7 @@ ghost use Rattle.std.specs.Prelude.{◌≡◌, ◌≤◌};
 ghost use Rattle.record_form.specs.Form as Form;
 
 use crate::reader::Reader;
-use fields::HEAD_SIZE;
+use fields::{Field, HEAD_SIZE};
 use refusal::Refusal;
 
 // The most bytes of a record: 512 points
@@ -23,11 +23,11 @@ pub fn check(record: &[u8]) -> Result<(), Refusal>
 }
 
 // Row 15 for the field that begins there
-pub(crate) fn check_field(record: &[u8], tag: u8, size: usize, start: usize) -> Result<(), Refusal>
-    requires { (start ≤ 40000) × (size ≤ 100) }
-    ensures { result ≡ Form.check_field «record».now tag size start }
+pub(crate) fn check_field(record: &[u8], field: Field, start: usize) -> Result<(), Refusal>
+    requires { start ≤ 40000 }
+    ensures { result ≡ Form.check_field «record».now field start }
 {
-    if is_whole(record, tag, size, start) {
+    if is_whole(record, field.tag(), field.size(), start) {
         Ok(())
     } else {
         Err(Refusal::RecordForm {

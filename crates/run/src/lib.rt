@@ -6,7 +6,7 @@ ghost use Rattle.std.specs.Prelude.{◌≡◌, ◌≤◌, ◌*◌, ◌+◌};
 ghost use Rattle.run.specs.Run as Run;
 
 use correspondences::Rig;
-use fields::HEAD_SIZE;
+use fields::{HEAD_SIZE, NUMBER_SIZE};
 use projection::PinholeCamera;
 use std::array;
 use views::{Correspondence, Pose};
@@ -32,7 +32,7 @@ fn numbers_at<const N: usize>(record: &[u8], at: usize) -> [f64; N]
     requires { at + 8 * N ≤ Run.farthest }
     ensures { result ≡ Run.numbers_at «record».now at N }
 {
-    array::from_fn(|j| number_from(record, at + 8 * j))
+    array::from_fn(|j| number_from(record, at + NUMBER_SIZE * j))
 }
 
 #[tactic(auto, unfolding(crate::specs::Run::camera_at), using(crate::proofs::Runs::camera_read))]
@@ -62,9 +62,9 @@ pub fn rig_of(record: &[u8]) -> Rig
         camera2: camera_at(record, fields::CAMERA2_AT),
         pose: Pose {
             rotation: numbers_at(record, pose),
-            translation: numbers_at(record, pose + 72),
+            translation: numbers_at(record, pose + 9 * NUMBER_SIZE),
             basis: numbers_at(record, basis),
-            baseline: number_from(record, basis + 48),
+            baseline: number_from(record, basis + 6 * NUMBER_SIZE),
         },
     }
 }
@@ -83,8 +83,8 @@ pub fn correspondence_at(record: &[u8], i: u32) -> Correspondence
     let at = fields::POINTS_AT + HEAD_SIZE + fields::POINT_STRIDE * (i as usize);
     Correspondence {
         point: numbers_at(record, at),
-        view1: numbers_at(record, at + 24),
-        view2: numbers_at(record, at + 40),
-        inverse_deviation: number_from(record, at + 56),
+        view1: numbers_at(record, at + 3 * NUMBER_SIZE),
+        view2: numbers_at(record, at + 5 * NUMBER_SIZE),
+        inverse_deviation: number_from(record, at + 7 * NUMBER_SIZE),
     }
 }
