@@ -5,7 +5,7 @@ use Prim.Native.Nat.{ℕ, zero, suc, ◌+◌, ◌*◌, ◌/◌, ◌%◌, ◌<◌
 use native.Mathlib.Numerals.{add-one}
 use native.Mathlib.Omega.{arith}
 use lib.ListN.{length, drop, set}
-use lib.Seq.{drop-cons, set_at, get_or_at, append_snoc, drop-length}
+use lib.Seq.{drop-cons, set_at, append_snoc, drop-length}
 use lib.Ieee.{Float, nan}
 use Rattle.number.specs.Binary64 as Binary64
 use Rattle.number.specs.Vectors.{◌!◌, tabulate}
@@ -29,13 +29,6 @@ fill_next l h f k v e g i =
     ∙ ap (λ (t : List Float). set (tabulate k f ++ t) k (f k)) (drop-cons l k nan i)
     ∙ set_at (tabulate k f) (l ! k) (drop (suc k) l) (f k) k (length_tabulate k f)
     ∙ sym (ap (λ (n : ℕ). filled l f n) (add-one k) ∙ ap (λ (t : List Float). t ++ drop (suc k) l) (tabulate_snoc k f) ∙ append_snoc (tabulate k f) (f k) (drop (suc k) l))
-
--- an entry that is still to be filled is l's
-pub filled_at : (l h : List Float) (f : ℕ → Float) (k : ℕ) → h ≡ filled l f k → k < length l → h ! k ≡ l ! k
-filled_at l h f k e i =
-    ap (λ (t : List Float). t ! k) e
-    ∙ ap (λ (t : List Float). (tabulate k f ++ t) ! k) (drop-cons l k nan i)
-    ∙ get_or_at (tabulate k f) (l ! k) (drop (suc k) l) nan k (length_tabulate k f)
 
 pub fill_all : (l h : List Float) (f : ℕ → Float) (k n : ℕ) → h ≡ filled l f k → k ≡ n → length l ≡ n → h ≡ tabulate n f
 fill_all l h f k n e g i =

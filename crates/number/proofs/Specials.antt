@@ -1,17 +1,11 @@
--- Bit patterns: a NaN's, and the sign's bit. Assumes nothing.
-use mathlib.Core.Path.{◌≡◌, refl, sym, ◌∙◌, subst}
-use mathlib.Core.Bool.{true, false, not, true≢false, false≢true}
+-- The bit patterns of a NaN. Assumes nothing.
+use mathlib.Core.Path.{◌≡◌, refl, sym, ◌∙◌}
+use mathlib.Core.Bool.{true, not, false≢true}
 use Prim.Native.Nat.{ℕ, ◌*◌, ◌%◌, ◌≤◌, ◌<◌}
-use native.Mathlib.Omega.{arith}
-use borrow.Author.Tests.{lt-ltb, le-ltb, le-leb, lt-leb}
-use lib.Dec.{T, leb}
-use lib.Ieee.{Float, nan, inf, fin, Format, binary64, neg, ne, fits, is_nan, hid, ones, top, of_bits, nan_bits, to_bits}
-use lib.Ieee.Bits.{nan_bits_is, nan_bits_above, to_bits-lt}
-use lib.Ieee.Compare.{differs_from_itself}
-use lib.Ieee.Fits.{inf-fits, neg-fits}
-use Rattle.number.specs.Parts.{negative}
-
--- ---- a NaN
+use borrow.Author.Tests.{lt-ltb, le-ltb}
+use lib.Dec.{T}
+use lib.Ieee.{Float, nan, inf, fin, Format, binary64, is_nan, hid, ones, top, of_bits, nan_bits, to_bits}
+use lib.Ieee.Bits.{nan_bits_is, nan_bits_above}
 
 -- the NaN by its pattern, and its pattern
 pub nan_of_pattern : of_bits binary64 0x7ff8_0000_0000_0000 ≡ nan
@@ -21,16 +15,6 @@ nan_of_pattern = refl
 pub nan_pattern : to_bits binary64 nan ≡ 0x7ff8_0000_0000_0000
 unfolding to_bits
 nan_pattern = refl
-
--- `x != x` is a test for a NaN
-pub ne_nan : (x : Float) → ne x x ≡ true → x ≡ nan
-ne_nan x h = differs_from_itself x (subst T (sym h) tt)
-
-pub not_ne_nan : (x : Float) → ne x x ≡ false → T (not (is_nan x))
-unfolding ne is_nan
-not_ne_nan nan h = true≢false h
-not_ne_nan (inf s) h = tt
-not_ne_nan (fin s m e) h = tt
 
 pub nan_of_is_nan : (x : Float) → is_nan x ≡ true → x ≡ nan
 unfolding is_nan
@@ -44,13 +28,3 @@ nan_of_bits f b h = nan_of_is_nan (of_bits f b) (sym (nan_bits_is f b) ∙ nan_b
 
 pub no_nan_bits : (f : Format) (b : ℕ) → b % top f ≤ ones f * hid f → T (not (nan_bits f b))
 no_nan_bits f b h = rw (nan_bits_above f b, le-ltb (ones f * hid f) (b % top f) h) tt
-
--- ---- the sign's bit
-
-pub sign_bit : (f : Format) (x : Float) → T (fits f x) → T (not (is_nan x)) → negative x ≡ leb (top f) (to_bits f x)
-unfolding is_nan negative neg to_bits
-sign_bit f nan p h = absurd h
-sign_bit f (inf true) p h = sym (le-leb (top f) (to_bits f (inf true)) (omega arith))
-sign_bit f (inf false) p h = let k = to_bits-lt f (inf true) (inf-fits f true) in sym (lt-leb (top f) (to_bits f (inf false)) (omega arith))
-sign_bit f (fin true m e) p h = sym (le-leb (top f) (to_bits f (fin true m e)) (omega arith))
-sign_bit f (fin false m e) p h = let k = to_bits-lt f (fin true m e) (neg-fits f (fin false m e) p) in sym (lt-leb (top f) (to_bits f (fin false m e)) (omega arith))

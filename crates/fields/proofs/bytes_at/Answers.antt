@@ -1,14 +1,14 @@
 -- `fields::bytes_at` meets its contract. Assumes nothing.
 use Rattle.std.proofs.Common.{◌≡◌, ℕ, ◌+◌, List, drop, ap, ◌∙◌, rules}
 use Rattle.std.proofs.lemmas.List.{get_or-drop}
+use Rattle.number.proofs.FromFn.{from_fn_maps_kept}
 use Rattle.fields.specs.Fields.{byte}
-use Rattle.fields.proofs.Made.{made}
 use Rattle.fields.proofs.bytes_at.Goals as goal
 
 pub returns : goal.returns
 returns g c =
     let r = c.args.«record».now in
     let a = c.args.at in
-    made _ (λ f. f.0.now ≡ drop a r) (λ i. byte r (a + i)) _
-    (λ f i y q u s w. let h : (y ≡ byte f.0.now i) × (q.0.now ≡ drop a r) = search rules in (h.0 ∙ ap (λ (l : List ℕ). byte l i) s ∙ get_or-drop a r i 0, h.1))
+    from_fn_maps_kept (λ f. f.0.now ≡ drop a r) (λ i. byte r (a + i)) _
+    (λ f i y q u s w. let h : (q.0.now ≡ drop a r) × (y ≡ byte f.0.now i) = search rules in (h.0, h.1 ∙ ap (λ (l : List ℕ). byte l i) s ∙ get_or-drop a r i 0))
     _ 0 _ c.rest-bytes.ensures c.from_fn.ensures.items

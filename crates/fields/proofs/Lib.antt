@@ -1,2 +1,0 @@
--- Arrays that a function of the index makes.
-pub mod Made
