@@ -27,8 +27,7 @@ pub struct Change {
 pub fn eliminate(system: ReducedSystem, local: LocalLinearization, damping: f64) -> Change
     ensures { result ≡ BlockElimination.eliminate system local damping }
 {
-    let matrix = local.point_hessian;
-    match PointBlockFactor::factor(matrix, damping) {
+    match PointBlockFactor::factor(local.point_hessian, damping) {
         Ok(factor) => eliminated(system, local, damping, factor),
         Err(_) => not_eliminated(system, damping == 0.0),
     }
@@ -44,24 +43,21 @@ fn eliminated(
 ) -> Change
     ensures { result ≡ BlockElimination.eliminated system local damping factor.inverse }
 {
-    let h = system.hessian;
-    let g = system.gradient;
-    let hessian = elimination::reduced_hessian(h, factor, local);
-    let gradient = elimination::reduced_gradient(g, factor, local);
+    let hessian = elimination::reduced_hessian(system.hessian, factor, local);
+    let gradient = elimination::reduced_gradient(system.gradient, factor, local);
     let reduction = elimination::point_reduction(system.point_model_reduction, factor, local);
     let mut weak = false;
-    let mut smallest = system.minimum_point_rcond;
+    let mut minimum_point_rcond = system.minimum_point_rcond;
     if damping == 0.0 {
-        let matrix = local.point_hessian;
-        let rcond = factor.reciprocal_condition_number(matrix);
+        let rcond = factor.reciprocal_condition_number(local.point_hessian);
         weak = rcond <= number::EPSILON192;
-        smallest = extrema::min(smallest, rcond);
+        minimum_point_rcond = extrema::min(minimum_point_rcond, rcond);
     }
     Change {
         hessian,
         gradient,
         point_model_reduction: reduction,
-        minimum_point_rcond: smallest,
+        minimum_point_rcond,
         factored: true,
         weak,
     }
@@ -74,7 +70,7 @@ fn not_eliminated(system: ReducedSystem, at_zero: bool) -> Change
 {
     let hessian = system.hessian;
     let gradient = system.gradient;
-    let smallest = if at_zero {
+    let minimum_point_rcond = if at_zero {
         0.0
     } else {
         system.minimum_point_rcond
@@ -83,7 +79,7 @@ fn not_eliminated(system: ReducedSystem, at_zero: bool) -> Change
         hessian,
         gradient,
         point_model_reduction: system.point_model_reduction,
-        minimum_point_rcond: smallest,
+        minimum_point_rcond,
         factored: false,
         weak: at_zero,
     }

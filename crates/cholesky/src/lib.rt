@@ -47,8 +47,7 @@ pub fn invert(m: [f64; 9], d: [f64; 3]) -> Option<[f64; 6]>
     if !good_pivots(factor) {
         return None;
     }
-    let lower = factor.lower;
-    Some(inverse_of(lower, scale))
+    Some(inverse_of(factor.lower, scale))
 }
 
 #[tactic(auto, unfolding(crate::specs::Cholesky::scale_of))]
@@ -66,16 +65,13 @@ fn scale_of(d: [f64; 3]) -> Scale
 fn scaled_of(m: [f64; 9], s: Scale) -> Lower
     ensures { result ≡ Cholesky.scaled_of m s }
 {
-    let m00 = m[0];
-    let m11 = m[4];
-    let m22 = m[8];
     Lower {
-        e00: 0.5 * (m00 + m00) / (s.s0 * s.s0),
+        e00: 0.5 * (m[0] + m[0]) / (s.s0 * s.s0),
         e10: 0.5 * (m[3] + m[1]) / (s.s1 * s.s0),
-        e11: 0.5 * (m11 + m11) / (s.s1 * s.s1),
+        e11: 0.5 * (m[4] + m[4]) / (s.s1 * s.s1),
         e20: 0.5 * (m[6] + m[2]) / (s.s2 * s.s0),
         e21: 0.5 * (m[7] + m[5]) / (s.s2 * s.s1),
-        e22: 0.5 * (m22 + m22) / (s.s2 * s.s2),
+        e22: 0.5 * (m[8] + m[8]) / (s.s2 * s.s2),
     }
 }
 

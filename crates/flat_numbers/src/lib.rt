@@ -10,17 +10,12 @@ use reduced_system::ReducedSystem;
 pub fn block_numbers(b: LocalLinearization) -> [f64; 59]
     ensures { result ≡ FlatNumbers.block_numbers b }
 {
-    let pose_hessian = b.pose_hessian;
-    let cross_hessian = b.cross_hessian;
-    let point_hessian = b.point_hessian;
-    let pose_gradient = b.pose_gradient;
-    let point_gradient = b.point_gradient;
     let mut values = [0.0; 59];
-    slices::copy(&pose_hessian, 0, &mut values);
-    slices::copy(&cross_hessian, 25, &mut values);
-    slices::copy(&point_hessian, 40, &mut values);
-    slices::copy(&pose_gradient, 49, &mut values);
-    slices::copy(&point_gradient, 54, &mut values);
+    slices::copy(&b.pose_hessian, 0, &mut values);
+    slices::copy(&b.cross_hessian, 25, &mut values);
+    slices::copy(&b.point_hessian, 40, &mut values);
+    slices::copy(&b.pose_gradient, 49, &mut values);
+    slices::copy(&b.point_gradient, 54, &mut values);
     slices::copy(&[b.cost, b.squared_residual], 57, &mut values);
     values
 }
@@ -28,16 +23,12 @@ pub fn block_numbers(b: LocalLinearization) -> [f64; 59]
 pub fn system_numbers(s: ReducedSystem) -> [f64; 45]
     ensures { result ≡ FlatNumbers.system_numbers s }
 {
-    let hessian = s.hessian;
-    let gradient = s.gradient;
-    let full_pose_gradient = s.full_pose_gradient;
-    let pose_diagonal = s.pose_diagonal;
     let mut values = [0.0; 45];
-    slices::copy(&hessian, 0, &mut values);
-    slices::copy(&gradient, 25, &mut values);
+    slices::copy(&s.hessian, 0, &mut values);
+    slices::copy(&s.gradient, 25, &mut values);
     slices::copy(&[s.cost, s.squared_residual], 30, &mut values);
-    slices::copy(&full_pose_gradient, 32, &mut values);
-    slices::copy(&pose_diagonal, 37, &mut values);
+    slices::copy(&s.full_pose_gradient, 32, &mut values);
+    slices::copy(&s.pose_diagonal, 37, &mut values);
     let last = [
         s.point_model_reduction,
         s.scaled_point_gradient_inf_norm,

@@ -24,8 +24,7 @@ impl Grade {
     pub fn of(local: LocalLinearization, damping: f64) -> Self
         ensures { result ≡ Letters.of local damping }
     {
-        let matrix = local.point_hessian;
-        match PointBlockFactor::new(matrix, damping) {
+        match PointBlockFactor::new(local.point_hessian, damping) {
             Ok(lone) if damping == 0.0 => {
                 if lone.rcond <= number::EPSILON192 {
                     Grade::Weak

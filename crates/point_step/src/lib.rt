@@ -43,8 +43,7 @@ pub fn step_of_terms(
     if !point_damping::good_damping(damping) {
         return Err(Refusal::Damping);
     }
-    let matrix = terms.point_hessian;
-    let factor = PointBlockFactor::factor(matrix, damping)?;
+    let factor = PointBlockFactor::factor(terms.point_hessian, damping)?;
     stepped(factor, terms, pose_step)
 }
 
@@ -57,8 +56,7 @@ fn stepped(
     ensures { result ≡ Steps.stepped factor.inverse terms pose_step }
 {
     let step = step_of(factor, terms, pose_step);
-    let matrix = terms.point_hessian;
-    let diagonal = point_damping::damping_diagonal(matrix)?;
+    let diagonal = point_damping::damping_diagonal(terms.point_hessian)?;
     Ok(PointStep {
         step,
         damping_norm: damping_norm(diagonal, step),

@@ -55,9 +55,8 @@ impl ReducedSystem {
         if !point_damping::good_damping(damping) {
             return Err(Refusal::Damping);
         }
-        let h = self.hessian;
-        let d = self.pose_diagonal;
-        Ok(self.with_hessian(pose_damping::damped_hessian(h, d, damping)))
+        let hessian = pose_damping::damped_hessian(self.hessian, self.pose_diagonal, damping);
+        Ok(self.with_hessian(hessian))
     }
 
     // Whether every block taken in factored, and the equations are finite
@@ -65,9 +64,7 @@ impl ReducedSystem {
     pub fn is_valid(self) -> bool
         ensures { result ≡ Model.is_valid self }
     {
-        let gradient = self.gradient;
-        let hessian = self.hessian;
-        self.valid & vectors::all_finite(&gradient) & vectors::all_finite(&hessian)
+        self.valid & vectors::all_finite(&self.gradient) & vectors::all_finite(&self.hessian)
     }
 
     // The largest scaled gradient entry of all points and of the pose
@@ -75,12 +72,8 @@ impl ReducedSystem {
     pub fn scaled_gradient_inf_norm(self) -> f64
         ensures { result ≡ Model.gradient_inf_norm self }
     {
-        let gradient = self.full_pose_gradient;
-        let diagonal = self.pose_diagonal;
-        extrema::max(
-            self.scaled_point_gradient_inf_norm,
-            gradient_norm::norm(gradient, diagonal),
-        )
+        let pose = gradient_norm::norm(self.full_pose_gradient, self.pose_diagonal);
+        extrema::max(self.scaled_point_gradient_inf_norm, pose)
     }
 
     // What a step of the pose is predicted to gain. Tests row 3.
@@ -104,14 +97,11 @@ impl ReducedSystem {
     fn reduction_of(self, step: [f64; 5], damping: f64, point_damping_norm: f64) -> f64
         ensures { result ≡ Model.reduction_of self step damping point_damping_norm }
     {
-        let gradient = self.gradient;
-        let hessian = self.hessian;
-        let diagonal = self.pose_diagonal;
-        let damped = self.point_model_reduction
-            - pose_model::dot5(gradient, step)
-            - 0.5 * pose_model::quadratic(hessian, step);
-        damped
-            + 0.5 * damping * (pose_damping::pose_damping_norm(diagonal, step) + point_damping_norm)
+        let undamped = self.point_model_reduction
+            - pose_model::dot5(self.gradient, step)
+            - 0.5 * pose_model::quadratic(self.hessian, step);
+        let damping_norm = pose_damping::pose_damping_norm(self.pose_diagonal, step);
+        undamped + 0.5 * damping * (damping_norm + point_damping_norm)
     }
 
     #[tactic(auto, unfolding(crate::specs::Model::with_hessian))]

@@ -10,10 +10,7 @@ ghost use Rattle.number.specs.Vectors.{◌!◌};
 pub fn entry(values: &[f64], i: usize) -> f64
     ensures { result ≡ values.now ! i }
 {
-    match values.get(i) {
-        Some(x) => *x,
-        None => f64::NAN,
-    }
+    values.get(i).copied().unwrap_or(f64::NAN)
 }
 
 // Whether every entry is finite

@@ -6,7 +6,9 @@
 // `linearize_point` of kernel/two_view/schur.rs.
 #![tactic(auto)]
 
-ghost use Rattle.std.specs.Prelude.{◌≡◌};
+ghost use Rattle.std.specs.Prelude.{◌<◌, ◌≡◌};
+ghost use Rattle.number.specs.Binary64.{◌⊗◌};
+ghost use Rattle.number.specs.Vectors.{◌!◌};
 ghost use Rattle.views.specs.Views as Views;
 
 use projection::{PinholeCamera, Projected};
@@ -121,14 +123,11 @@ fn weighted_views(
 {
     let residual1 = first.residual;
     let residual2 = second.residual;
+    let weight1 = loss::row_weight(residual1, inverse_deviation);
+    let weight2 = loss::row_weight(residual2, inverse_deviation);
     LinearizedViews {
-        first: first_rows(first, pose, loss::row_weight(residual1, inverse_deviation)),
-        second: second_rows(
-            second,
-            rotated,
-            pose,
-            loss::row_weight(residual2, inverse_deviation),
-        ),
+        first: first_rows(first, pose, weight1),
+        second: second_rows(second, rotated, pose, weight2),
         residual1,
         residual2,
     }
@@ -138,23 +137,17 @@ fn weighted_views(
 fn first_rows(first: Projected, pose: Pose, weight: f64) -> View1
     ensures { result ≡ Views.first_rows first pose weight }
 {
-    let residual = first.residual;
-    let jacobian = first.jacobian;
-    first_view(residual, jacobian, pose.baseline, weight)
+    first_view(first.residual, first.jacobian, pose.baseline, weight)
 }
 
 #[tactic(auto, unfolding(crate::specs::Views::second_rows))]
 fn second_rows(second: Projected, rotated: [f64; 3], pose: Pose, weight: f64) -> View2
     ensures { result ≡ Views.second_rows second rotated pose weight }
 {
-    let residual = second.residual;
-    let jacobian = second.jacobian;
-    let rotation = pose.rotation;
-    let basis = pose.basis;
-    let motion = jacobians::pose_motion_jacobian(rotated, basis, pose.baseline);
-    let by_pose = jacobians::pose_jacobian(jacobian, motion);
-    let by_point = jacobians::point_jacobian(jacobian, rotation, pose.baseline);
-    second_view(residual, by_pose, by_point, weight)
+    let motion = jacobians::pose_motion_jacobian(rotated, pose.basis, pose.baseline);
+    let by_pose = jacobians::pose_jacobian(second.jacobian, motion);
+    let by_point = jacobians::point_jacobian(second.jacobian, pose.rotation, pose.baseline);
+    second_view(second.residual, by_pose, by_point, weight)
 }
 
 // View 1 sees the point where it is, so the pose moves nothing: weight × 0, which shows where the
@@ -185,9 +178,10 @@ fn second_view(residual: [f64; 2], by_pose: [f64; 10], by_point: [f64; 6], weigh
 fn weigh<const N: usize>(numbers: [f64; N], weight: f64) -> [f64; N]
     ensures { result ≡ Views.weighted N weight numbers.entry }
 {
-    let mut weighted = numbers;
-    for x in weighted.iter_mut() {
-        *x = weight * *x;
-    }
-    weighted
+    array::from_fn(
+        |i|
+            requires { i < N }
+            ensures { result ≡ weight ⊗ numbers ! i }
+        { weight * numbers[i] },
+    )
 }

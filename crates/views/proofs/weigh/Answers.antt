@@ -1,11 +1,11 @@
-use mathlib.Core.Path.{ap}
-use lib.Ieee.{Float}
-use native.Mathlib.Omega.{arith}
-use Rattle.number.proofs.Fill.{fill_next, filled_at}
+-- `views::weigh` meets its contract. Assumes nothing.
+use Rattle.std.proofs.Common.{rules}
 use Rattle.number.specs.Binary64.{◌⊗◌}
+use Rattle.number.specs.Vectors.{◌!◌}
+use Rattle.number.proofs.FromFn.{from_fn_tabulates}
 use Rattle.views.proofs.weigh.Goals as goal
 
-pub loop-x-preserved : goal.loop-x-preserved
-loop-x-preserved g c =
-    let l = c.loop-x in
-    fill_next c.args.numbers _ _ _ _ l.invariant (ap (λ (v : Float). c.args.weight ⊗ v) (filled_at c.args.numbers _ _ _ l.invariant (omega arith))) (omega arith)
+pub returns : goal.returns
+returns g c =
+    let a = c.args in
+    from_fn_tabulates _ (λ i. a.weight ⊗ a.numbers ! i) (λ i x q h. search rules) g.row.N c.from_fn.ensures.items
