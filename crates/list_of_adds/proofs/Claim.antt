@@ -130,7 +130,7 @@ module _ (d : Float) (good : T (good_damping d)) where
     unfolding eliminated not_eliminated taken_with
     weak_taken =
         split s b (λ t. t.weak_point_count ≡ raised (is_zero d && (not (factors d b) || small_rcond d b)) s.weak_point_count)
-        (λ e. rw (e, same_rcond b e) refl)
+        (λ e. ap (λ (z : Bool). raised z s.weak_point_count) (rw (e, same_rcond b e) refl))
         (λ e. rw e (ap (λ (z : Bool). raised z s.weak_point_count) (sym (and-true (is_zero d)))))
 
     counts_taken : Counts s → Counts (taken s b d)
