@@ -1,0 +1,2 @@
+-- The rows that the loops of `lower_of` write.
+mod Rows
