@@ -15,7 +15,7 @@ pub fn pixel_projection(camera: &[f64], observation: &[f64], point: &[f64], out:
     ensures { Answers.Answered result out.new
         (Calls.pixel_projection camera.now observation.now point.now out.old) }
 {
-    if !((camera.len() == 5) & (observation.len() == 2) & (point.len() == 3) & (out.len() == 8)) {
+    if camera.len() != 5 || observation.len() != 2 || point.len() != 3 || out.len() != 8 {
         return answers::lengths();
     }
     let projected = projection::pixel_projection(
@@ -32,7 +32,7 @@ pub fn linearize_point(rig: &[f64], correspondence: &[f64], out: &mut [f64]) -> 
     ensures { Answers.Answered result out.new
         (Calls.linearize_point rig.now correspondence.now out.old) }
 {
-    if !((rig.len() == 29) & (correspondence.len() == 8) & (out.len() == 59)) {
+    if rig.len() != 29 || correspondence.len() != 8 || out.len() != 59 {
         return answers::lengths();
     }
     let block = linearization::linearize_point(
@@ -53,7 +53,7 @@ pub fn point_step_with_damping_norm(
     ensures { Answers.Answered result out.new
         (Calls.point_step block.now damping pose_step.now out.old) }
 {
-    if !((block.len() == 59) & (pose_step.len() == 5) & (out.len() == 4)) {
+    if block.len() != 59 || pose_step.len() != 5 || out.len() != 4 {
         return answers::lengths();
     }
     let step = point_step::point_step_with_damping_norm(

@@ -14,7 +14,7 @@ use refusal::Refusal;
 pub fn damping_diagonal(matrix: &[f64], out: &mut [f64]) -> u64
     ensures { Answers.Answered result out.new (Calls.damping_diagonal matrix.now out.old) }
 {
-    if !((matrix.len() == 9) & (out.len() == 3)) {
+    if matrix.len() != 9 || out.len() != 3 {
         return answers::lengths();
     }
     answers::answer(
@@ -28,7 +28,7 @@ pub fn damping_diagonal(matrix: &[f64], out: &mut [f64]) -> u64
 pub fn damped_matrix(matrix: &[f64], damping: f64, out: &mut [f64]) -> u64
     ensures { Answers.Answered result out.new (Calls.damped_matrix matrix.now damping out.old) }
 {
-    if !((matrix.len() == 9) & (out.len() == 9)) {
+    if matrix.len() != 9 || out.len() != 9 {
         return answers::lengths();
     }
     if !point_damping::good_damping(damping) {
@@ -43,7 +43,7 @@ pub fn damped_matrix(matrix: &[f64], damping: f64, out: &mut [f64]) -> u64
 pub fn factor_damped(matrix: &[f64], out: &mut [f64]) -> u64
     ensures { Answers.Answered result out.new (Calls.factor_damped matrix.now out.old) }
 {
-    if !((matrix.len() == 9) & (out.len() == 6)) {
+    if matrix.len() != 9 || out.len() != 6 {
         return answers::lengths();
     }
     let factor = PointBlockFactor::factor_damped(slices::vector(matrix, 0));
@@ -55,7 +55,7 @@ pub fn factor_damped(matrix: &[f64], out: &mut [f64]) -> u64
 pub fn factor_new(matrix: &[f64], damping: f64, out: &mut [f64]) -> u64
     ensures { Answers.Answered result out.new (Calls.lone_factor matrix.now damping out.old) }
 {
-    if !((matrix.len() == 9) & (out.len() == 7)) {
+    if matrix.len() != 9 || out.len() != 7 {
         return answers::lengths();
     }
     let lone = PointBlockFactor::new(slices::vector(matrix, 0), damping);
@@ -67,7 +67,7 @@ pub fn factor_new(matrix: &[f64], damping: f64, out: &mut [f64]) -> u64
 pub fn factor_solve(inverse: &[f64], x: &[f64], out: &mut [f64]) -> u64
     ensures { Answers.Answered result out.new (Calls.factor_solve inverse.now x.now out.old) }
 {
-    if !((inverse.len() == 6) & (x.len() == 3) & (out.len() == 3)) {
+    if inverse.len() != 6 || x.len() != 3 || out.len() != 3 {
         return answers::lengths();
     }
     let factor = PointBlockFactor {
@@ -82,7 +82,7 @@ pub fn reciprocal_condition_number(inverse: &[f64], matrix: &[f64], out: &mut [f
     ensures { Answers.Answered result out.new
         (Calls.reciprocal_condition_number inverse.now matrix.now out.old) }
 {
-    if !((inverse.len() == 6) & (matrix.len() == 9) & (out.len() == 1)) {
+    if inverse.len() != 6 || matrix.len() != 9 || out.len() != 1 {
         return answers::lengths();
     }
     let factor = PointBlockFactor {
@@ -98,7 +98,7 @@ pub fn solve_positive_definite(a: &[f64], b: &[f64], out: &mut [f64]) -> u64
     ensures { Answers.Answered result out.new
         (Calls.solve_positive_definite a.now b.now out.old) }
 {
-    if !((a.len() == 25) & (b.len() == 5) & (out.len() == 5)) {
+    if a.len() != 25 || b.len() != 5 || out.len() != 5 {
         return answers::lengths();
     }
     let x = solver::solve_positive_definite(slices::vector(a, 0), slices::vector(b, 0));

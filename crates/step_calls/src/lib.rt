@@ -30,7 +30,7 @@ pub fn step<'a>(
         (Calls.step (Problems.problem points.now view1.now view2.now inverse_deviations.now (Flat.rig rig.now) damping)
         rig.now room.old out.old weak.old) }
 {
-    if !((rig.len() == 29) & (out.len() == 12) & (weak.len() == 1)) {
+    if rig.len() != 29 || out.len() != 12 || weak.len() != 1 {
         return answers::lengths();
     }
     let problem = Problem {
@@ -49,7 +49,7 @@ pub fn step<'a>(
 pub fn limit_pose_step(x: &[f64], out: &mut [f64]) -> u64
     ensures { Answers.Answered result out.new (Calls.limit_pose_step x.now out.old) }
 {
-    if !((x.len() == 5) & (out.len() == 5)) {
+    if x.len() != 5 || out.len() != 5 {
         return answers::lengths();
     }
     answers::answer(Ok(pose_step::limit_pose_step(slices::vector(x, 0))), out)

@@ -16,7 +16,7 @@ pub fn system_new(system: &mut [f64], counts: &mut [u16]) -> u64
     ensures { Calls.Changed result system.new counts.new
         (Calls.new_system system.old counts.old) }
 {
-    if !((system.len() == 45) & (counts.len() == 3)) {
+    if system.len() != 45 || counts.len() != 3 {
         return answers::lengths();
     }
     answer(Ok(ReducedSystem::new()), system, counts)
@@ -27,7 +27,7 @@ pub fn system_add(system: &mut [f64], counts: &mut [u16], block: &[f64], damping
     ensures { Calls.Changed result system.new counts.new
         (Calls.add system.old counts.old block.now damping) }
 {
-    if !((system.len() == 45) & (counts.len() == 3) & (block.len() == 59)) {
+    if system.len() != 45 || counts.len() != 3 || block.len() != 59 {
         return answers::lengths();
     }
     let s = flat::system(system, counts);
@@ -40,7 +40,7 @@ pub fn system_finish_damping(system: &mut [f64], counts: &mut [u16], damping: f6
     ensures { Calls.Changed result system.new counts.new
         (Calls.finish_damping system.old counts.old damping) }
 {
-    if !((system.len() == 45) & (counts.len() == 3)) {
+    if system.len() != 45 || counts.len() != 3 {
         return answers::lengths();
     }
     let s = flat::system(system, counts);
@@ -54,7 +54,7 @@ pub fn system_is_valid(system: &[f64], counts: &[u16], out: &mut [u16]) -> u64
     ensures { Answers.Answered result out.new
         (Calls.is_valid system.now counts.now out.old) }
 {
-    if !((system.len() == 45) & (counts.len() == 3) & (out.len() == 1)) {
+    if system.len() != 45 || counts.len() != 3 || out.len() != 1 {
         return answers::lengths();
     }
     let s = flat::system(system, counts);
@@ -68,7 +68,7 @@ pub fn system_scaled_gradient_inf_norm(system: &[f64], counts: &[u16], out: &mut
     ensures { Answers.Answered result out.new
         (Calls.gradient_inf_norm system.now counts.now out.old) }
 {
-    if !((system.len() == 45) & (counts.len() == 3) & (out.len() == 1)) {
+    if system.len() != 45 || counts.len() != 3 || out.len() != 1 {
         return answers::lengths();
     }
     let s = flat::system(system, counts);
@@ -88,7 +88,7 @@ pub fn system_predicted_reduction(
     ensures { Answers.Answered result out.new
         (Calls.predicted_reduction system.now counts.now step.now damping point_damping_norm out.old) }
 {
-    if !((system.len() == 45) & (counts.len() == 3) & (step.len() == 5) & (out.len() == 1)) {
+    if system.len() != 45 || counts.len() != 3 || step.len() != 5 || out.len() != 1 {
         return answers::lengths();
     }
     let s = flat::system(system, counts);
