@@ -40,7 +40,10 @@ pub fn replay<F: Fn(&[f64; MOST], &mut [f64]) -> u64>(
     let n = stored_file::read(rt, stored.file.as_bytes(), room);
     match str::from_utf8(&room[..n]) {
         Ok(text) => lines(rt, stored, text, &call),
-        Err(_) => Ok(()),
+        Err(_) => {
+            let file = stored.file;
+            println!(rt; "{file} is not text")
+        }
     }
 }
 
@@ -52,9 +55,7 @@ fn lines<F: Fn(&[f64; MOST], &mut [f64]) -> u64>(
 ) -> io::Result<()>
     requires { F.IsAlwaysCallable call.now }
 {
-    let Some(name) = stored.file.strip_suffix(".txt") else {
-        return Ok(());
-    };
+    let name = stored.file.strip_suffix(".txt").unwrap_or(stored.file);
     let mut differences = 0u64;
     for (i, line) in text.lines().enumerate() {
         let mut room = [0.0; MOST_OUTPUTS];
