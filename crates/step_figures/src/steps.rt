@@ -1,6 +1,6 @@
 // The figures of the whole step: the limit of the pose step, an example of each row, and any two rows that follow
 // each other met at once, where the earlier one is given.
-ghost use Rattle.std.specs.Prelude.{◌≡◌, ◌≤◌, length};
+ghost use Rattle.std.specs.Prelude.{◌≤◌};
 
 use correspondences::{Problem as Lent, Rig};
 use projection::PinholeCamera;

@@ -1,7 +1,7 @@
 // Text in a lent buffer.
 #![tactic(auto)]
 
-ghost use Rattle.std.specs.Prelude.{◌++◌, ◌≡◌, ◌≤◌, length, drop};
+ghost use Rattle.std.specs.Prelude.{◌++◌, ◌≡◌, ◌≤◌, drop};
 ghost use Rattle.text.specs.Text as Text;
 
 // Puts as much of a text into out as fits from an offset on, and answers the place behind it.
