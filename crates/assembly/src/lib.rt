@@ -4,11 +4,11 @@
 // The reduced system of a whole problem, from the blocks of all points: kernel/two_view/optimizer.rs.
 #![tactic(auto)]
 
-ghost use Rattle.std.specs.Prelude.{◌≡◌, ◌≤◌};
-ghost use Rattle.checks.specs.Checks as Checks;
+ghost use Rattle.std.specs.Prelude.{◌≡◌};
 ghost use Rattle.correspondences.specs.Problem as Problems;
 ghost use Rattle.assembly.specs.Assembly as Assembly;
 
+use checks::FittingProblem;
 use correspondences::{Problem, Rig};
 use linearization::LocalLinearization;
 use reduced_system::ReducedSystem;
@@ -21,15 +21,15 @@ pub fn reduced_system(problem: &Problem) -> Result<ReducedSystem, Refusal>
     ensures { result ≡ Assembly.reduced (Problems.of problem.now) }
 {
     checks::check(problem)?;
-    Ok(damped_system(problem))
+    Ok(damped_system(&FittingProblem { problem }))
 }
 
 // All blocks added in their order, then the pose damping
 #[tactic(auto, unfolding(crate::specs::Assembly::reduced_system, crate::specs::Assembly::system_to))]
-fn damped_system(problem: &Problem) -> ReducedSystem
-    requires { Problems.count (Problems.of problem.now) ≤ Checks.max_points }
-    ensures { result ≡ Assembly.reduced_system (Problems.of problem.now) }
+fn damped_system(fitting: &FittingProblem) -> ReducedSystem
+    ensures { result ≡ Assembly.reduced_system (Problems.of fitting.now.problem.now) }
 {
+    let problem = fitting.problem;
     let mut system = ReducedSystem::new();
     for i in 0..problem.count() {
         let local = block_of(problem.rig, problem.correspondence_at(i as u32));

@@ -6,4 +6,4 @@
 
 mod rows;
 
-pub use rows::{MAXIMUM_POINTS, check};
+pub use rows::{FittingProblem, MAXIMUM_POINTS, check};

@@ -6,4 +6,4 @@ use Rattle.checks.proofs.rows.check_points.Goals as goal
 
 pub loop-index-preserved : goal.loop-index-preserved
 loop-index-preserved c =
-    goes_on _ _ _ _ c.loop-index.invariant (omega arith) (is_good _ _ _ (c.all_finite.ensures ∙ ap all_finite c.point_at-point.ensures) c.if-not-all_finite.false)
+    goes_on _ _ _ _ c.loop-index.invariant (omega arith) (is_good _ _ _ (c.all_finite.ensures ∙ ap all_finite c.point_at.ensures) c.if-not-all_finite.false)

@@ -3,7 +3,7 @@ use Rattle.refusal.specs.First.{first, first_of}
 use Rattle.refusal.proofs.Scans.{Scanned}
 use Rattle.correspondences.specs.Problem.{of, count}
 use Rattle.checks.specs.Checks.{check_view, check_projection}
-use Rattle.checks.proofs.rows.check_projections.Given as goal
+use Rattle.checks.proofs.rows.FittingProblem.check_projections.Given as goal
 
 abbrev pub invariant-views : goal.invariant-views
 invariant-views l =
