@@ -7,7 +7,13 @@ use lib.Dec.{eqb}
 use lib.Ieee.{Float}
 use Rattle.refusal.specs.First.{Checked, unless}
 use Rattle.refusal.specs.declared.Refusal.{Refusal}
-use Rattle.refusal.specs.declared.Refusal.TheVariants.{Lengths}
+use Rattle.refusal.specs.declared.Refusal.TheVariants.{Lengths, NotFactored}
+use Rattle.solver.specs.Solver.{solve_positive_definite}
+use Rattle.reduced_system.specs.Model.{is_valid}
+use Rattle.pose_step.specs.PoseStep.{pose_step}
+use Rattle.step_result.specs.Results.{finished}
+use Rattle.point_steps.specs.PointSteps.{Wrote}
+use Rattle.point_steps.specs.declared.Sums.{Sums}
 use Rattle.reduced_system.specs.declared.ReducedSystem.{ReducedSystem}
 use Rattle.step_result.specs.declared.StepResult.{StepResult}
 use Rattle.correspondences.specs.Problem.{Problem, count}
@@ -15,7 +21,7 @@ use Rattle.checks.specs.Checks as Checks
 use Rattle.checks.proofs.Passed.{checked}
 use Rattle.assembly.specs.Assembly.{reduced_system, reduced}
 use Rattle.point_steps.proofs.PointSteps.{no_step_refused}
-use Rattle.optimizer.specs.Step.{solved_step, check, step, written, Done}
+use Rattle.optimizer.specs.Step.{pose_step_of, stepped, solved_step, check, step, written, Done}
 
 -- ---- row 1 with the room: the points' length decides where the two agree, and one of them is wrong where they do not
 
@@ -83,7 +89,7 @@ module _ (p : Problem) (room : List Float) where
           let k = (checked p g.0).0 in
           (k.3, t ∙ k.0, g.1)
 
-      pub done : (r : Result StepResult Refusal) (after : List Float) → r ≡ solved_step p → after ≡ written p r room → Done p room r after
+      done : (r : Result StepResult Refusal) (after : List Float) → r ≡ solved_step p → after ≡ written p r room → Done p room r after
       unfolding step
       done r after e f =
           let g = given_by p s h in
@@ -93,3 +99,22 @@ module _ (p : Problem) (room : List Float) where
             room_after = f;
             none_refused = λ y v. no_step_refused p k.1 k.0.3 v;
           }
+
+      pub not_valid : is_valid s ≡ false → Done p room (Err NotFactored) room
+      unfolding solved_step written
+      not_valid e = done (Err NotFactored) room (rw (sym fits.2, e) refl) refl
+
+      module _ (valid : is_valid s ≡ true) where
+        pub not_solved : (e : Refusal) (r : Result StepResult Refusal) → solve_positive_definite s.hessian s.gradient ≡ Err e → r ≡ Err e → Done p room r room
+        unfolding solved_step written
+        not_solved e r q k = rw k (done (Err e) room (rw (sym fits.2, valid, q) refl) refl)
+
+        pub solved : (x v : List Float) (n : ℕ) (sums : Sums) (after : List Float) (t : StepResult) → solve_positive_definite s.hessian s.gradient ≡ Ok x → v ≡ pose_step x
+            → Wrote p v room sums after
+            → n ≡ count p
+            → t ≡ finished s v p.damping n sums.squared sums.damping_norm
+            → Done p room (Ok t) after
+        unfolding solved_step stepped pose_step_of written
+        solved x v n sums after t q k w e f =
+            let all = w.fits (fits.0, fits.1) in
+            done (Ok t) after (ap Ok f ∙ rw (sym fits.2, valid, q, sym k, e, all.0) refl) (all.1 ∙ rw (sym fits.2, q, k) refl)

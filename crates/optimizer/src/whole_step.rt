@@ -2,14 +2,10 @@
 // SPDX-License-Identifier: MIT OR Apache-2.0
 
 // The whole step: checks, reduced system, solve, point steps, predicted reduction.
-ghost use Rattle.std.specs.Prelude.{◌≡◌, ◌≤◌, ◌*◌, length};
-ghost use Rattle.assembly.specs.Assembly as Assembly;
-ghost use Rattle.checks.specs.Checks as Checks;
 ghost use Rattle.correspondences.specs.Problem as Problems;
 ghost use Rattle.optimizer.specs.Step as Steps;
 
 use correspondences::Problem;
-use reduced_system::ReducedSystem;
 use refusal::Refusal;
 use step_result::StepResult;
 
@@ -22,22 +18,6 @@ pub fn step(problem: &Problem, room: &mut [f64]) -> Result<StepResult, Refusal>
         return Err(Refusal::Lengths);
     }
     let system = assembly::reduced_system(problem)?;
-    solved_step(problem, system, room)
-}
-
-// Rows 10 and 11, then the step
-#[tactic(auto, unfolding(crate::specs::Step::solved_step, crate::specs::Step::stepped, crate::specs::Step::pose_step_of, crate::specs::Step::written))]
-fn solved_step(
-    problem: &Problem,
-    system: ReducedSystem,
-    room: &mut [f64],
-) -> Result<StepResult, Refusal>
-    requires few_points { Problems.count (Problems.of problem.now) ≤ Checks.max_points }
-    requires room { length room.old ≡ 3 * Problems.count (Problems.of problem.now) }
-    requires system { system ≡ Assembly.reduced_system (Problems.of problem.now) }
-    ensures answer { result ≡ Steps.solved_step (Problems.of problem.now) }
-    ensures room { room.new ≡ Steps.written (Problems.of problem.now) result room.old }
-{
     if !system.is_valid() {
         return Err(Refusal::NotFactored);
     }
