@@ -1,15 +1,15 @@
 -- The pass over all points that fills the room with their steps, and its sums. Assumes nothing.
 use mathlib.Core.Path.{◌≡◌, refl, sym, ap, ◌∙◌}
 use mathlib.Core.Bool.{Bool, true, false, cond}
-use mathlib.Core.List.{List, [], ◌∷◌, ◌++◌}
-use Prim.Native.Nat.{ℕ, zero, suc, ◌+◌, ◌*◌, ◌≤◌}
+use mathlib.Core.List.{List, ◌++◌, append_assoc}
+use Prim.Native.Nat.{ℕ, zero, suc, ◌+◌, ◌-◌, ◌*◌}
+use borrow.Rule.Slice.PartMut.{put_mid, post_of}
 use native.Mathlib.Numerals.{add-one}
 use native.Mathlib.Omega.{arith}
-use lib.ListN.{length, take, drop, set, length-set, length-append}
-use lib.Seq.{sets-eq, take_at, drop-append-add, drop-drop}
+use lib.ListN.{length, drop, length-append}
+use lib.Seq.{take_at, drop_at, drop-drop}
 use lib.Ieee.{Float}
 use Rattle.number.specs.Binary64.{◌⊕◌}
-use Rattle.number.specs.Vectors.{◌!◌}
 use Rattle.std.specs.Prelude.{Result, Ok, Err}
 use Rattle.std.specs.Result.{result_unwrap_or}
 use Rattle.refusal.specs.declared.Refusal.{Refusal}
@@ -26,13 +26,6 @@ use Rattle.point_step.specs.declared.PointStep.{PointStep}
 use Rattle.correspondences.specs.Problem.{Problem, correspondence_at}
 use Rattle.assembly.specs.Assembly.{block_of}
 use Rattle.point_steps.specs.PointSteps.{point_step_of, still, step_at, steps_to, squared_norm, no_steps, sums_to}
-
-three : (x : List Float) → length x ≡ 3 → x ! 0 ∷ x ! 1 ∷ x ! 2 ∷ [] ≡ x
-three [] e = absurd (omega arith)
-three (a ∷ []) e = absurd (omega arith)
-three (a ∷ b ∷ []) e = absurd (omega arith)
-three (a ∷ b ∷ c ∷ []) e = refl
-three (a ∷ b ∷ c ∷ d ∷ l) e = absurd (omega arith)
 
 step_length : (b : LocalLinearization) (d : Float) (s : List Float) → length (result_unwrap_or (point_step b d s) still).step ≡ 3
 unfolding point_step step_of_terms point_terms stepped step_of
@@ -52,10 +45,6 @@ step_length b d s = by (good_damping d) (factor b.point_hessian d) (damping_diag
     by true (Ok f) (Err e) = refl
     by true (Err e) r = refl
     by false f r = refl
-
-pub room_length : (room : List Float) (i : ℕ) (x : List Float) → length (set (set (set room (3 * i) (x ! 0)) (3 * i + 1) (x ! 1)) (3 * i + 2) (x ! 2)) ≡ length room
-room_length room i x =
-    length-set (set (set room (3 * i) (x ! 0)) (3 * i + 1) (x ! 1)) (3 * i + 2) (x ! 2) ∙ length-set (set room (3 * i) (x ! 0)) (3 * i + 1) (x ! 1) ∙ length-set room (3 * i) (x ! 0)
 
 module _ (p : Problem) (s : List Float) where
   pub stepped_at : (i : ℕ) (d : Correspondence) (r : Result PointStep Refusal) (x : PointStep) → d ≡ correspondence_at p i → r ≡ point_step_of p.rig d p.damping s
@@ -81,25 +70,17 @@ module _ (p : Problem) (s : List Float) where
   unfolding steps_to
   room_none room₀ = refl
 
-  pub room_next : (room₀ room : List Float) (i : ℕ) (x : List Float) → Filled room₀ i room → 3 * i + 3 ≤ length room → x ≡ (step_at p s i).step
-      → Filled room₀ (i + 1) (set (set (set room (3 * i) (x ! 0)) (3 * i + 1) (x ! 1)) (3 * i + 2) (x ! 2))
+  pub room_next : (room₀ room x : List Float) (i : ℕ) → Filled room₀ i room → x ≡ (step_at p s i).step → Filled room₀ (i + 1) (put_mid (3 * i) (3 * i + 3 - 3 * i) room x)
   unfolding steps_to
-  room_next room₀ room i x e h f =
-      let A = steps_to p s i in
-      let v = three x (ap length f ∙ step_three i) in
-      let k : 3 * i + 2 ≡ suc (suc (3 * i)) = omega arith in
-      let m : 3 * i + 3 ≡ 3 * (i + 1) = omega arith in
-      ap (λ (j : ℕ). set (set (set room (3 * i) (x ! 0)) j (x ! 1)) (3 * i + 2) (x ! 2)) (add-one (3 * i))
-      ∙ ap (λ (j : ℕ). set (set (set room (3 * i) (x ! 0)) (suc (3 * i)) (x ! 1)) j (x ! 2)) k
-      ∙ sets-eq (x ! 0 ∷ x ! 1 ∷ x ! 2 ∷ []) room (3 * i) h
-      ∙ ap (λ (t : List Float). take (3 * i) room ++ t ++ drop (3 * i + 3) room) (v ∙ f)
-      ∙ ap (λ (r : List Float). take (3 * i) r ++ (step_at p s i).step ++ drop (3 * i + 3) r) e
-      ∙ ap (λ (t : List Float). t ++ (step_at p s i).step ++ drop (3 * i + 3) (A ++ drop (3 * i) room₀)) (take_at A (drop (3 * i) room₀) (3 * i) (steps_length i))
-      ∙ ap (λ (t : List Float). A ++ (step_at p s i).step ++ t)
-      (ap (λ (j : ℕ). drop (j + 3) (A ++ drop (3 * i) room₀)) (sym (steps_length i))
-      ∙ drop-append-add A (drop (3 * i) room₀) 3
-      ∙ drop-drop 3 (3 * i) room₀
-      ∙ ap (λ (j : ℕ). drop j room₀) m)
+  room_next room₀ room x i e f =
+      let n = 3 * i + 3 - 3 * i in
+      let behind : 3 * i + n ≡ 3 * (i + 1) = omega arith in
+      ap (λ (l : List Float). put_mid (3 * i) n l x) e
+      ∙ ap (λ (l : List Float). l ++ (x ++ post_of (3 * i) n (steps_to p s i ++ drop (3 * i) room₀))) (take_at (steps_to p s i) (drop (3 * i) room₀) (3 * i) (steps_length i))
+      ∙ ap (λ (l : List Float). steps_to p s i ++ (x ++ drop n l)) (drop_at (steps_to p s i) (drop (3 * i) room₀) (3 * i) (steps_length i))
+      ∙ ap (λ (l : List Float). steps_to p s i ++ (x ++ l)) (drop-drop n (3 * i) room₀ ∙ ap (λ (j : ℕ). drop j room₀) behind)
+      ∙ ap (λ (l : List Float). steps_to p s i ++ (l ++ drop (3 * (i + 1)) room₀)) f
+      ∙ sym (append_assoc (steps_to p s i) (step_at p s i).step (drop (3 * (i + 1)) room₀))
       ∙ ap (λ (j : ℕ). steps_to p s j ++ drop (3 * (i + 1)) room₀) (sym (add-one i))
 
   -- ---- their sums

@@ -60,11 +60,8 @@ fn fill(problem: &Problem, pose_step: [f64; 5], room: &mut [f64]) -> Sums
         let moved = point_step(problem.rig, correspondence, problem.damping, pose_step).unwrap_or(
             STILL,
         );
-        let s = moved.step;
-        room[3 * i] = s[0];
-        room[3 * i + 1] = s[1];
-        room[3 * i + 2] = s[2];
-        squared = squared + squared_norm(s);
+        room[3 * i..3 * i + 3].copy_from_slice(&moved.step);
+        squared = squared + squared_norm(moved.step);
         damping_norm = damping_norm + moved.damping_norm;
     }
     Sums {

@@ -1,4 +1,4 @@
-use Rattle.std.proofs.Common.{◌≡◌, ◌-◌, ◌≤◌, length}
+use Rattle.std.proofs.Common.{◌≡◌, ◌-◌, ◌≤◌}
 use Rattle.correspondences.specs.Problem.{of, count}
 use Rattle.point_steps.specs.PointSteps.{sums_to}
 use Rattle.point_steps.proofs.Passes.{Filled}
@@ -8,7 +8,6 @@ abbrev pub invariant-loop-i : goal.invariant-loop-i
 invariant-loop-i l =
     record {
       within : l.i ≤ count (of l.problem);
-      same_room : length l.room ≡ length l.initial.room;
       filled : Filled (of l.problem) l.pose_step l.initial.room l.i l.room;
       squares : l.squared ≡ (sums_to (of l.problem) l.pose_step l.i).squared;
       norms : l.damping_norm ≡ (sums_to (of l.problem) l.pose_step l.i).damping_norm;
