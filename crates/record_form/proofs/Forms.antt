@@ -33,7 +33,8 @@ module _ (r : List ℕ) (tag size start : ℕ) where
       by true y z e = refl
       by false y z e = absurd (true≢false (sym e))
 
-field_fits : (r : List ℕ) (field : Field) (start : ℕ) → check_field r field start ≡ Ok tt → start + 3 + size field ≤ length r
+-- a field without a refusal ends within the record
+pub field_fits : (r : List ℕ) (field : Field) (start : ℕ) → check_field r field start ≡ Ok tt → start + 3 + size field ≤ length r
 field_fits r field start e = whole_fits r (tag field) (size field) start (held _ _ e)
 
 -- what rows 14 and 15 leave
