@@ -1,7 +1,6 @@
 -- Laws of the run that a record holds and of its list: it meets no row below 3 (`Rows`), and the prefix read decides (`Prefix`).
 mod Columns
 mod Runs
-mod Listed
 pub mod Bounds
 pub mod Rows
 pub mod Prefix

@@ -3,6 +3,7 @@
 
 mod list;
 mod points;
+mod well_formed;
 
 pub use list::{MAX_LIST, TooSmall, write_list};
 pub use record_form::MAX_RECORD;

@@ -1,14 +1,14 @@
 // The list of a run record.
 ghost use Rattle.std.specs.Prelude.{◌≡◌};
-ghost use Rattle.std.specs.Result.{result_and};
+ghost use Rattle.checks.specs.Checks as Checks;
 ghost use Rattle.assembly.specs.Assembly as Assembly;
 ghost use Rattle.fields.specs.Fields as Fields;
-ghost use Rattle.record_form.specs.Form as Form;
 ghost use Rattle.run.specs.Run as Run;
 ghost use Rattle.record.specs.Lists as Lists;
 ghost use Rattle.text.specs.Text as Text;
 
 use crate::points;
+use crate::well_formed::WellFormedRecord;
 use correspondences::Problem;
 use reduced_system::ReducedSystem;
 use refusal::Refusal;
@@ -46,32 +46,34 @@ pub fn write_list(record: &[u8], out: &mut [u8]) -> Result<usize, TooSmall>
     Ok(length)
 }
 
-// The list of any record
-#[tactic(auto, using(crate::proofs::Listed::form_passed, crate::proofs::Listed::run_listed, crate::proofs::Listed::run_refused))]
+// The list of any record: rows 14 and 15 first
+#[tactic(auto, unfolding(crate::specs::Lists::list, crate::specs::Lists::check))]
 fn put_list(out: &mut [u8], record: &[u8]) -> usize
     ensures { Text.Put (Lists.list «record».now) 0 out.old result out.new }
 {
-    match system_of(record) {
+    match WellFormedRecord::new(record) {
+        Ok(record) => put_well_formed(out, &record),
+        Err(refusal) => lines::put_refused(out, 0, refusal),
+    }
+}
+
+// The list of a record of the right form: rows 3 to 9, then the lines
+#[tactic(auto, unfolding(assembly::specs::Assembly::reduced))]
+fn put_well_formed(out: &mut [u8], record: &WellFormedRecord) -> usize
+    ensures { Text.Put (Lists.listed «record».now (Checks.check (Run.run «record».now))) 0 out.old result out.new }
+{
+    match reduced_system(record) {
         Ok(system) => put_lines(out, record, system),
         Err(refusal) => lines::put_refused(out, 0, refusal),
     }
 }
 
-// The system of a record: rows 14 and 15, then 3 to 9
-#[tactic(auto, using(record_form::proofs::Forms::formed))]
-fn system_of(record: &[u8]) -> Result<ReducedSystem, Refusal>
-    ensures { result ≡ result_and (Form.check «record».now) (Assembly.reduced (Run.run «record».now)) }
-{
-    record_form::check(record)?;
-    reduced_system(record)
-}
-
 // The system of a record of the right form
-fn reduced_system(record: &[u8]) -> Result<ReducedSystem, Refusal>
-    requires { Form.Formed «record».now }
+#[tactic(auto, using(crate::proofs::Runs::reduced_is))]
+fn reduced_system(record: &WellFormedRecord) -> Result<ReducedSystem, Refusal>
     ensures { result ≡ Assembly.reduced (Run.run «record».now) }
 {
-    let n = fields::point_fields(record);
+    let n = fields::point_fields(record.bytes);
     let points = points::column(record, 0, 3);
     let view1 = points::column(record, 24, 2);
     let view2 = points::column(record, 40, 2);
@@ -81,33 +83,32 @@ fn reduced_system(record: &[u8]) -> Result<ReducedSystem, Refusal>
         view1: &view1[..2 * n],
         view2: &view2[..2 * n],
         inverse_deviations: &inverse_deviations[..n],
-        rig: run::rig_of(record),
-        damping: run::damping_of(record),
+        rig: run::rig_of(record.bytes),
+        damping: run::damping_of(record.bytes),
     })
 }
 
 // The lines of a run that is not refused
 #[tactic(auto, using(text::proofs::Puts::put_put), unfolding(crate::specs::Lists::lines_of))]
-fn put_lines(out: &mut [u8], record: &[u8], system: ReducedSystem) -> usize
-    requires { Form.Formed «record».now }
+fn put_lines(out: &mut [u8], record: &WellFormedRecord, system: ReducedSystem) -> usize
     ensures { Text.Put (Lists.lines_of «record».now system) 0 out.old result out.new }
 {
-    let n = fields::point_fields(record);
-    let points_at = lines::put_run(out, 0, n as u32, run::damping_of(record));
+    let n = fields::point_fields(record.bytes);
+    let points_at = lines::put_run(out, 0, n as u32, run::damping_of(record.bytes));
     let sum_at = put_points(out, points_at, record);
     sum_line::put_sum(out, sum_at, system)
 }
 
 // A line for each point
-fn put_points(out: &mut [u8], start: usize, record: &[u8]) -> usize
-    requires { Form.Formed «record».now }
+#[tactic(auto, using(crate::proofs::Runs::no_lines, crate::proofs::Runs::next_line))]
+fn put_points(out: &mut [u8], start: usize, record: &WellFormedRecord) -> usize
     ensures { Text.Put (Lists.point_lines (Run.run «record».now) (Fields.point_fields «record».now)) start out.old result out.new }
 {
-    let rig = run::rig_of(record);
-    let damping = run::damping_of(record);
+    let rig = run::rig_of(record.bytes);
+    let damping = run::damping_of(record.bytes);
     let mut at = start;
-    for i in 0..fields::point_fields(record) as u32 {
-        let block = assembly::block_of(rig, run::correspondence_at(record, i));
+    for i in 0..fields::point_fields(record.bytes) as u32 {
+        let block = assembly::block_of(rig, run::correspondence_at(record.bytes, i));
         let letter = letters::letter(block, damping);
         at = lines::put_point(out, at, i, letter);
     }

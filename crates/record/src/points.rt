@@ -2,23 +2,24 @@
 ghost use Rattle.std.specs.Prelude.{◌≡◌, ◌≤◌, ◌<◌, ◌*◌, ◌+◌, take};
 ghost use Rattle.number.specs.Vectors as Vectors;
 ghost use Rattle.fields.specs.Fields as Fields;
-ghost use Rattle.record_form.specs.Form as Form;
 ghost use Rattle.run.specs.Run as Run;
 
+use crate::well_formed::WellFormedRecord;
 use fields::{HEAD_SIZE, NUMBER_SIZE, POINT_STRIDE, POINTS_AT};
 
 // The most points of a record
 const MAX_POINTS: usize = 512;
 
 // The numbers of all points, `each` a point, which begin at `first` of the payload; zeros stand behind them
-pub(crate) fn column(record: &[u8], first: usize, each: usize) -> [f64; 3 * MAX_POINTS]
-    requires { (0 < each) × (each ≤ 3) × (first ≤ 64) × Form.Formed «record».now }
+#[tactic(auto, using(crate::proofs::Columns::few_numbers, crate::proofs::Columns::front_filled, number::proofs::Fill::fill_next))]
+pub(crate) fn column(record: &WellFormedRecord, first: usize, each: usize) -> [f64; 3 * MAX_POINTS]
+    requires { (0 < each) × (each ≤ 3) × (first ≤ 64) }
     ensures { let count = each * Fields.point_fields «record».now in
         take count result ≡ Vectors.tabulate count (Run.column «record».now first each) }
 {
     let mut numbers = [0.0; 3 * MAX_POINTS];
-    for j in 0..each * fields::point_fields(record) {
-        numbers[j] = number_of(record, first, each, j);
+    for j in 0..each * fields::point_fields(record.bytes) {
+        numbers[j] = number_of(record.bytes, first, each, j);
     }
     numbers
 }
