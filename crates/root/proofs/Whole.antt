@@ -49,15 +49,6 @@ square_lt a b h = go (leb b a) (leb→le b a) (nleb→lt b a)
     go true l g = let m : b * b ≤ a * a = mul-le-mul (l tt) (l tt) in absurd (omega arith)
     go false l g = g tt
 
--- the root of a number of 53 or 54 digits has 27
-pub whole_low : (d r : ℕ) → 2 ^ 52 ≤ d → WholeRoot d r → 2 ^ 26 ≤ r
-whole_low d r h w =
-    let l : 2 ^ 26 < r + 1 = square_lt (2 ^ 26) (r + 1) (let n = w.next in omega arith) in
-    omega arith
-
-pub whole_high : (d r : ℕ) → d < 2 ^ 54 → WholeRoot d r → r < 2 ^ 27
-whole_high d r h w = square_lt r (2 ^ 27) (let n = w.reached in omega arith)
-
 -- ---- from the root of d to the nearest root of d * 2 ^ 52
 
 pub next_square : (r : ℕ) → (r + 1) * (r + 1) ≡ r * r + 2 * r + 1
