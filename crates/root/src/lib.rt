@@ -50,76 +50,85 @@ fn root_of_digits(m: u64, power: u64) -> u64
     requires { (2 ^ 52 ≤ m) × (m < 2 ^ 53) × (power < 4000) }
     ensures { result ≡ Ieee.to_bits binary64 (Root.nearest_root (m * 2 ^ (power + 52))) }
 {
-    let d = if power % 2 == 0 { m } else { 2 * m };
-    power / 2 * LEAD + nearest_root(d)
+    let value = if power % 2 == 0 { m } else { 2 * m };
+    power / 2 * LEAD + Digits { value }.nearest_root()
 }
 
-// The whole number nearest to the root of d * 2 ^ 52. Near one, where the first pivot of every factor
-// lies, it takes no division.
-fn nearest_root(d: u64) -> u64
-    requires { (2 ^ 52 ≤ d) × (d < 2 ^ 54) }
-    ensures { NearestRoot (d * 2 ^ 52) result }
-{
-    if (d < LEAD + NEAR) | (4 * LEAD - NEAR < d) {
-        return root_near_one(d);
+// A number d of 53 or 54 digits
+#[derive(Clone, Copy)]
+struct Digits {
+    value: u64,
+    ghost low: { 2 ^ 52 ≤ value },
+    ghost high: { value < 2 ^ 54 },
+}
+
+impl Digits {
+    // The whole number nearest to the root of d * 2 ^ 52. Near one, where the first pivot of every factor
+    // lies, it takes no division.
+    fn nearest_root(self) -> u64
+        ensures { NearestRoot (self.value * 2 ^ 52) result }
+    {
+        let d = self.value;
+        if (d < LEAD + NEAR) | (4 * LEAD - NEAR < d) {
+            return self.root_near_one();
+        }
+        self.root_by_parts()
     }
-    root_by_parts(d)
-}
 
-// For a d near an end of its range: its root lies half as far, by its size, from 2 ^ 52 or 2 ^ 53 as d
-// does from 2 ^ 52 or 2 ^ 54.
-#[tactic(auto, using(crate::proofs::Whole::root_over, crate::proofs::Whole::root_under))]
-fn root_near_one(d: u64) -> u64
-    requires { (2 ^ 52 ≤ d) × (d < 2 ^ 54) × ((d < 2 ^ 52 + 2 ^ 26) ⊎ (2 ^ 54 - 2 ^ 26 < d)) }
-    ensures { NearestRoot (d * 2 ^ 52) result }
-{
-    if d < 2 * LEAD {
-        LEAD + (d - LEAD) / 2
-    } else {
-        2 * LEAD - (4 * LEAD - d + 2) / 4
+    // For a d near an end of its range: its root lies half as far, by its size, from 2 ^ 52 or 2 ^ 53 as d
+    // does from 2 ^ 52 or 2 ^ 54.
+    #[tactic(auto, using(crate::proofs::Whole::root_over, crate::proofs::Whole::root_under))]
+    fn root_near_one(self) -> u64
+        requires { (self.value < 2 ^ 52 + 2 ^ 26) ⊎ (2 ^ 54 - 2 ^ 26 < self.value) }
+        ensures { NearestRoot (self.value * 2 ^ 52) result }
+    {
+        let d = self.value;
+        if d < 2 * LEAD {
+            LEAD + (d - LEAD) / 2
+        } else {
+            2 * LEAD - (4 * LEAD - d + 2) / 4
+        }
     }
-}
 
-// The upper digits are the root of d, and the lower ones come from the remainder by one division.
-fn root_by_parts(d: u64) -> u64
-    requires { (2 ^ 52 ≤ d) × (d < 2 ^ 54) }
-    ensures { NearestRoot (d * 2 ^ 52) result }
-{
-    let high = whole_root(d);
-    let rest = (d - high * high) * 0x200_0000;
-    let low = rest / high;
-    let left = rest % high;
-    let root = high * 0x400_0000 + low;
-    if root + low * low < left * 0x800_0000 {
-        root + 1
-    } else {
+    // The upper digits are the root of d, and the lower ones come from the remainder by one division.
+    fn root_by_parts(self) -> u64
+        ensures { NearestRoot (self.value * 2 ^ 52) result }
+    {
+        let high = self.whole_root();
+        let rest = (self.value - high * high) * 0x200_0000;
+        let low = rest / high;
+        let left = rest % high;
+        let root = high * 0x400_0000 + low;
+        if root + low * low < left * 0x800_0000 {
+            root + 1
+        } else {
+            root
+        }
+    }
+
+    // The whole part of the root of d. The mean of a guess and of what it leaves of d (Heron) is never
+    // below the root, and this one is too large by at most one.
+    fn whole_root(self) -> u64
+        ensures { WholeRoot self.value result }
+    {
+        let d = self.value;
+        let guess = self.first_guess();
+        let mut root = (guess + d / guess) / 2;
+        while d < root * root {
+            root -= 1;
+        }
         root
     }
-}
 
-// The whole part of the root of d. The mean of a guess and of what it leaves of d (Heron) is never
-// below the root, and this one is too large by at most one.
-fn whole_root(d: u64) -> u64
-    requires { (2 ^ 52 ≤ d) × (d < 2 ^ 54) }
-    ensures { WholeRoot d result }
-{
-    let guess = first_guess(d);
-    let mut root = (guess + d / guess) / 2;
-    while d < root * root {
-        root -= 1;
+    // A parabola over each 2 ^ 50 numbers, within one part in 2 ^ 15 of the root of d.
+    fn first_guess(self) -> u64
+        ensures { (2 ^ 25 ≤ result) × (result < 2 ^ 28) }
+    {
+        let p = parabola_from(self.value / 0x4_0000_0000_0000);
+        let t = self.value % 0x4_0000_0000_0000 / 0x100_0000;
+        let slope = p.slope - p.bend * t / 0x400_0000;
+        p.start + slope * t / 0x400_0000
     }
-    root
-}
-
-// A parabola over each 2 ^ 50 numbers, within one part in 2 ^ 15 of the root of d.
-fn first_guess(d: u64) -> u64
-    requires { (2 ^ 52 ≤ d) × (d < 2 ^ 54) }
-    ensures { (2 ^ 25 ≤ result) × (result < 2 ^ 28) }
-{
-    let p = parabola_from(d / 0x4_0000_0000_0000);
-    let t = d % 0x4_0000_0000_0000 / 0x100_0000;
-    let slope = p.slope - p.bend * t / 0x400_0000;
-    p.start + slope * t / 0x400_0000
 }
 
 // What a guess begins with, how it rises over the step, and by how much less towards its end

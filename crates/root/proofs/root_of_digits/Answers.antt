@@ -6,9 +6,6 @@ use native.Mathlib.Nat.{mul_assoc, mul-le-mul_right, mul-lt-mul_of_pos_right}
 use native.Mathlib.Omega.{arith}
 use lib.Dec.{lit<}
 use lib.Pow.{pow-add}
-use mir.Syntax.{w64}
-use mir.Val.{Fits}
-use Rattle.root.proofs.Whole.{nearest_high}
 use Rattle.root.proofs.Rounded.{root_pattern}
 use Rattle.root.proofs.root_of_digits.Goals as goal
 use Rattle.root.proofs.root_of_digits.Goals.{then-power-eq0, else-power-eq0}
@@ -58,25 +55,12 @@ low m p d e = mul-le-mul_right (2 ^ 52) e.low
 high : (m p d : ℕ) → Evened m p d → d * 2 ^ 52 < 2 ^ 106
 high m p d e = mul-lt-mul_of_pos_right e.high (lit< tt)
 
-pub nearest_root-requires : goal.nearest_root-requires
-nearest_root-requires c = let e = evened c.args.m c.args.power c.requires.0 c.requires.1 c.if-power-eq0.d (elim c.if-power-eq0.branch [ then-power-eq0 w ↦ inl (w.if-power-eq0.true, w.d-is) | else-power-eq0 w ↦ inr (w.if-power-eq0.false, w.d-is) ]) in (e.low, e.high)
-
-pub overflow_add-result : goal.overflow_add-result
-overflow_add-result c =
-    let m = c.args.m in
-    let p = c.args.power in
-    let d = c.if-power-eq0.d in
-    sum p c.nearest_root.result c.requires.2 (nearest_high (d * 2 ^ 52) c.nearest_root.result (2 ^ 53) (high m p d (evened c.args.m c.args.power c.requires.0 c.requires.1 c.if-power-eq0.d (elim c.if-power-eq0.branch [ then-power-eq0 w ↦ inl (w.if-power-eq0.true, w.d-is) | else-power-eq0 w ↦ inr (w.if-power-eq0.false, w.d-is) ]))) c.nearest_root.ensures)
-  where
-    sum : (p r : ℕ) → p < 4000 → r ≤ 2 ^ 53 → Fits w64 (p / 2 * 2 ^ 52 + r)
-    sum p r h k = record { fits = omega arith }
-
 pub returns : goal.returns
 returns c =
     let m = c.args.m in
     let p = c.args.power in
-    let d = c.if-power-eq0.d in
-    let e = evened c.args.m c.args.power c.requires.0 c.requires.1 c.if-power-eq0.d (elim c.if-power-eq0.branch [ then-power-eq0 w ↦ inl (w.if-power-eq0.true, w.d-is) | else-power-eq0 w ↦ inr (w.if-power-eq0.false, w.d-is) ]) in
+    let d = c.if-power-eq0.value in
+    let e = evened m p c.requires.0 c.requires.1 d (elim c.if-power-eq0.branch [ then-power-eq0 w ↦ inl (w.if-power-eq0.true, w.value-is) | else-power-eq0 w ↦ inr (w.if-power-eq0.false, w.value-is) ]) in
     sym (root_pattern _ (d * 2 ^ 52) (p / 2) c.nearest_root.result e.same (low m p d e) (high m p d e) c.nearest_root.ensures (halved p c.requires.2))
   where
     halved : (p : ℕ) → p < 4000 → p / 2 < 2000

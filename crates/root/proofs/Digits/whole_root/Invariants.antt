@@ -1,5 +1,5 @@
 use Prim.Native.Nat.{◌+◌, ◌*◌, ◌^◌, ◌<◌}
-use Rattle.root.proofs.whole_root.Given as goal
+use Rattle.root.proofs.Digits.whole_root.Given as goal
 
 abbrev pub invariant-loop-root : goal.invariant-loop-root
 invariant-loop-root l = (l.d < (l.root + 1) * (l.root + 1)) × (l.root < 2 ^ 31)
