@@ -131,37 +131,35 @@ impl Digits {
     }
 }
 
-// What a guess begins with, how it rises over the step, and by how much less towards its end
+// What a guess begins with, how it rises over the step, and by how much less towards its end. Any
+// numbers within these bounds would do: how near the guess is only decides how long the search after
+// it lasts.
 #[derive(Clone, Copy)]
 struct Parabola {
     start: u64,
     slope: u64,
     bend: u64,
+    ghost start_low: { 2 ^ 26 ≤ start },
+    ghost start_high: { start < 2 ^ 27 },
+    ghost rises: { bend ≤ slope },
+    ghost slope_high: { slope < 2 ^ 23 },
 }
 
-// Through the root at three points of the numbers from step * 2 ^ 50 on. Any numbers within these
-// bounds would do: how near the guess is only decides how long the search after it lasts.
-fn parabola_from(step: u64) -> Parabola
-    ensures { (2 ^ 26 ≤ result.start) × (result.start < 2 ^ 27) × (result.bend ≤ result.slope) × (result.slope < 2 ^ 23) }
-{
-    match step {
-        4 => through(67_110_511, 8_358_705, 440_658),
-        5 => through(75_030_973, 7_485_193, 325_806),
-        6 => through(82_191_878, 6_837_674, 253_450),
-        7 => through(88_777_127, 6_333_148, 204_419),
-        8 => through(94_906_589, 5_925_795, 169_389),
-        9 => through(100_663_540, 5_587_999, 143_336),
-        10 => through(106_108_620, 5_302_004, 123_341),
-        11 => through(111_287_611, 5_055_807, 107_598),
-        12 => through(116_236_084, 4_840_967, 94_942),
-        13 => through(120_982_325, 4_651_353, 84_586),
-        14 => through(125_549_272, 4_482_389, 75_985),
-        _ => through(129_955_827, 4_330_582, 68_749),
-    }
-}
-
-fn through(start: u64, slope: u64, bend: u64) -> Parabola
-    ensures { (result.start ≡ start) × (result.slope ≡ slope) × (result.bend ≡ bend) }
-{
+// Through the root at three points of the numbers from step * 2 ^ 50 on.
+fn parabola_from(step: u64) -> Parabola {
+    let (start, slope, bend) = match step {
+        4 => (67_110_511, 8_358_705, 440_658),
+        5 => (75_030_973, 7_485_193, 325_806),
+        6 => (82_191_878, 6_837_674, 253_450),
+        7 => (88_777_127, 6_333_148, 204_419),
+        8 => (94_906_589, 5_925_795, 169_389),
+        9 => (100_663_540, 5_587_999, 143_336),
+        10 => (106_108_620, 5_302_004, 123_341),
+        11 => (111_287_611, 5_055_807, 107_598),
+        12 => (116_236_084, 4_840_967, 94_942),
+        13 => (120_982_325, 4_651_353, 84_586),
+        14 => (125_549_272, 4_482_389, 75_985),
+        _ => (129_955_827, 4_330_582, 68_749),
+    };
     Parabola { start, slope, bend }
 }
