@@ -31,5 +31,5 @@ fn number_of(record: &[u8], first: usize, each: usize, j: usize) -> f64
     ensures { result ≡ Run.column «record».now first each j }
 {
     let point = POINTS_AT + HEAD_SIZE + first + POINT_STRIDE * (j / each);
-    run::number_at(record, (point + NUMBER_SIZE * (j % each)) as u32)
+    run::number_at(record, point + NUMBER_SIZE * (j % each))
 }

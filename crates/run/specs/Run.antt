@@ -9,10 +9,6 @@ use Rattle.correspondences.specs.declared.Rig.{Rig}
 use Rattle.correspondences.specs.Problem.{Problem, problem}
 use Rattle.fields.specs.Fields.{byte, camera1_at, camera2_at, pose_at, basis_at, damping_at, points_at, point_fields}
 
--- no offset that is asked for lies farther on
-abbrev pub farthest : ℕ
-farthest = 1099511627776
-
 -- four bytes, then eight, low byte first
 abbrev pub half : List ℕ → ℕ → ℕ
 half r at = byte r at + 256 * byte r (at + 1) + 65536 * byte r (at + 2) + 16777216 * byte r (at + 3)

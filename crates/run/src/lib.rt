@@ -1,8 +1,8 @@
 // What a record of the right form holds: numbers of eight bytes, low byte first. Each call has an answer for every record,
-// as beyond the end stand zeros; the offsets that are asked for are too small to wrap.
+// as beyond the end stand zeros.
 #![tactic(auto)]
 
-ghost use Rattle.std.specs.Prelude.{◌≡◌, ◌≤◌, ◌*◌, ◌+◌};
+ghost use Rattle.std.specs.Prelude.{◌≡◌, ◌<◌, ◌*◌, ◌+◌, ◌^◌};
 ghost use Rattle.run.specs.Run as Run;
 
 use correspondences::Rig;
@@ -11,33 +11,25 @@ use projection::PinholeCamera;
 use std::array;
 use views::{Correspondence, Pose};
 
-// Eight bytes
+// The number at an offset
 #[tactic(auto, unfolding(crate::specs::Run::number_at), using(crate::proofs::Runs::word_read))]
-fn number_from(record: &[u8], at: usize) -> f64
-    requires { at + 8 ≤ Run.farthest }
+pub fn number_at(record: &[u8], at: usize) -> f64
     ensures { result ≡ Run.number_at «record».now at }
 {
     number::from_bits(u64::from_le_bytes(fields::bytes_at(record, at)))
 }
 
-// The number at an offset
-pub fn number_at(record: &[u8], at: u32) -> f64
-    ensures { result ≡ Run.number_at «record».now at }
-{
-    number_from(record, at as usize)
-}
-
-// Numbers one after the other
+// Numbers one after the other, none of whose offsets wraps
 fn numbers_at<const N: usize>(record: &[u8], at: usize) -> [f64; N]
-    requires { at + 8 * N ≤ Run.farthest }
+    requires { at + 8 * N < 2 ^ 64 }
     ensures { result ≡ Run.numbers_at «record».now at N }
 {
-    array::from_fn(|j| number_from(record, at + NUMBER_SIZE * j))
+    array::from_fn(|j| number_at(record, at + NUMBER_SIZE * j))
 }
 
 #[tactic(auto, unfolding(crate::specs::Run::camera_at), using(crate::proofs::Runs::camera_read))]
 fn camera_at(record: &[u8], at: usize) -> PinholeCamera
-    requires { at + 43 ≤ Run.farthest }
+    requires { at + 43 < 2 ^ 64 }
     ensures { result ≡ Run.camera_at «record».now at }
 {
     let [fx, fy, cx, cy, skew]: [f64; 5] = numbers_at(record, at + HEAD_SIZE);
@@ -64,7 +56,7 @@ pub fn rig_of(record: &[u8]) -> Rig
             rotation: numbers_at(record, pose),
             translation: numbers_at(record, pose + 9 * NUMBER_SIZE),
             basis: numbers_at(record, basis),
-            baseline: number_from(record, basis + 6 * NUMBER_SIZE),
+            baseline: number_at(record, basis + 6 * NUMBER_SIZE),
         },
     }
 }
@@ -73,7 +65,7 @@ pub fn rig_of(record: &[u8]) -> Rig
 pub fn damping_of(record: &[u8]) -> f64
     ensures { result ≡ Run.damping «record».now }
 {
-    number_from(record, fields::DAMPING_AT + HEAD_SIZE)
+    number_at(record, fields::DAMPING_AT + HEAD_SIZE)
 }
 
 // What a point's field holds
@@ -85,6 +77,6 @@ pub fn correspondence_at(record: &[u8], i: u32) -> Correspondence
         point: numbers_at(record, at),
         view1: numbers_at(record, at + 3 * NUMBER_SIZE),
         view2: numbers_at(record, at + 5 * NUMBER_SIZE),
-        inverse_deviation: number_from(record, at + 7 * NUMBER_SIZE),
+        inverse_deviation: number_at(record, at + 7 * NUMBER_SIZE),
     }
 }
