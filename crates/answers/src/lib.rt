@@ -40,6 +40,7 @@ pub fn answer<const N: usize>(answered: Result<[f64; N], Refusal>, out: &mut [f6
 }
 
 // Stores the values where `out` has room for just as many; else `out` stays as it was.
+#[tactic(auto, using(slices::proofs::Laws::put_all))]
 pub fn store(values: &[f64], out: &mut [f64])
     ensures { Answers.Stores values.now out.old out.new }
 {

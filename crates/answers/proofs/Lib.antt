@@ -1,1 +1,0 @@
--- Answers stored in lent memory.
