@@ -28,6 +28,7 @@ fn product(x: [f64; 4], y: [f64; 4]) -> f64
 }
 
 // Filled row by row: number by number it took ten times as long, and so did the next.
+#[tactic(auto, using(number::proofs::Fill::array_none, number::proofs::Fill::row_of_five))]
 pub fn pose_hessian(a: [f64; 10], b: [f64; 10]) -> [f64; 25]
     ensures { result ≡ Accumulate.pose_hessian a b }
 {
@@ -48,6 +49,7 @@ pub fn pose_hessian(a: [f64; 10], b: [f64; 10]) -> [f64; 25]
     h
 }
 
+#[tactic(auto, using(number::proofs::Fill::array_none, number::proofs::Fill::row_of_three))]
 pub fn cross_hessian(a: [f64; 10], p: [f64; 6], b: [f64; 10], q: [f64; 6]) -> [f64; 15]
     ensures { result ≡ Accumulate.cross_hessian a p b q }
 {

@@ -27,6 +27,7 @@ pub fn reduced_hessian(
 }
 
 // The cross Hessian times the inverse times the cross Hessian's transpose
+#[tactic(auto, using(number::proofs::Fill::array_none, number::proofs::Fill::row_of_five))]
 fn schur_term(factor: PointBlockFactor, c: [f64; 15]) -> [f64; 25]
     ensures { result ≡ Elimination.schur_term factor.inverse c }
 {

@@ -1,24 +1,8 @@
-use mathlib.Core.Path.{refl, ◌∙◌}
+use mathlib.Core.Path.{◌∙◌}
 use native.Mathlib.Omega.{arith}
-use Rattle.number.proofs.Fill.{array_none, array_full, row_of_five}
+use Rattle.number.proofs.Fill.{array_full}
 use Rattle.elimination.proofs.Rows.{solved, term_is}
 use Rattle.elimination.proofs.schur_term.Goals as goal
-
-pub loop-i-init : goal.loop-i-init
-loop-i-init c = (omega arith, array_none 25 _)
-
-pub loop-i-preserved : goal.loop-i-preserved
-loop-i-preserved c =
-    let e = c.cross_row-row.ensures in (
-      omega arith,
-      row_of_five _ _ _ _ _ _ _ _ _ c.loop-i.invariant.1
-          (rw (c.dot3.ensures, e) refl)
-          (rw (c.dot3-in-loop-i.ensures, e) refl)
-          (rw (c.dot3-in-loop-i-2.ensures, e) refl)
-          (rw (c.dot3-in-loop-i-3.ensures, e) refl)
-          (rw (c.dot3-in-loop-i-4.ensures, e) refl)
-          (omega arith),
-    )
 
 pub returns : goal.returns
 returns c =
