@@ -21,7 +21,6 @@ use Rattle.point_block.specs.Lone.{factor}
 use Rattle.linearization.specs.Linearize.{point_terms}
 use Rattle.point_step.specs.PointStep.{step_of, damping_norm, stepped, step_of_terms, point_step}
 use Rattle.linearization.specs.declared.linearize.LocalLinearization.{LocalLinearization}
-use Rattle.views.specs.declared.Correspondence.{Correspondence}
 use Rattle.point_step.specs.declared.PointStep.{PointStep}
 use Rattle.correspondences.specs.Problem.{Problem, correspondence_at}
 use Rattle.assembly.specs.Assembly.{block_of}
@@ -47,10 +46,6 @@ step_length b d s = by (good_damping d) (factor b.point_hessian d) (damping_diag
     by false f r = refl
 
 module _ (p : Problem) (s : List Float) where
-  pub stepped_at : (i : ℕ) (d : Correspondence) (r : Result PointStep Refusal) (x : PointStep) → d ≡ correspondence_at p i → r ≡ point_step_of p.rig d p.damping s
-      → x ≡ result_unwrap_or r still → x ≡ step_at p s i
-  stepped_at i d r x e f g = g ∙ ap (λ (t : Result PointStep Refusal). result_unwrap_or t still) (f ∙ ap (λ (t : Correspondence). point_step_of p.rig t p.damping s) e)
-
   step_three : (i : ℕ) → length (step_at p s i).step ≡ 3
   unfolding point_step_of
   step_three i = step_length (block_of p.rig (correspondence_at p i)) p.damping s

@@ -48,6 +48,7 @@ pub fn write_steps(problem: &Problem, pose_step: [f64; 5], room: &mut [f64]) -> 
     fill(problem, pose_step, room)
 }
 
+#[tactic(auto, using(crate::proofs::Passes::room_none, crate::proofs::Passes::room_next, crate::proofs::Passes::sums_none, crate::proofs::Passes::squared_next, crate::proofs::Passes::norm_next))]
 fn fill(problem: &Problem, pose_step: [f64; 5], room: &mut [f64]) -> Sums
     requires { Steps.Fits (Problems.count (Problems.of problem.now)) room.old }
     ensures sums { result ≡ Steps.sums_to (Problems.of problem.now) pose_step (Problems.count (Problems.of problem.now)) }
