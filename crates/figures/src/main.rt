@@ -11,9 +11,9 @@ mod systems;
 use std::io;
 
 fn main(rt: HostRuntime) -> io::Result<()> {
-    show::named(&rt, b"root of 4", root::sqrt(4.0))?;
-    show::named(&rt, b"root of 2", root::sqrt(2.0))?;
-    show::named(&rt, b"root of -0", root::sqrt(-0.0))?;
+    show::named(&rt, "root of 4", root::sqrt(4.0))?;
+    show::named(&rt, "root of 2", root::sqrt(2.0))?;
+    show::named(&rt, "root of -0", root::sqrt(-0.0))?;
     projections::print(&rt)?;
     blocks::print(&rt)?;
     systems::print(&rt)?;

@@ -16,8 +16,6 @@ pub fn print(rt: &impl Print, text: &[u8]) -> io::Result<()> {
 }
 
 fn root(rt: &impl Print, b: u64) -> io::Result<()> {
-    show::text(rt, b"sqrt")?;
-    show::pattern(rt, b)?;
-    show::pattern(rt, number::to_bits(root::sqrt(number::from_bits(b))))?;
-    show::end(rt)
+    let root = number::to_bits(root::sqrt(number::from_bits(b)));
+    println!(rt; "sqrt {b:016X} {root:016X}")
 }

@@ -2,28 +2,29 @@
 use linearization::LocalLinearization;
 use projection::PinholeCamera;
 use reduced_system::ReducedSystem;
+use refusal::Refusal;
 use std::io;
 use views::{Correspondence, Pose, Rig};
 
 pub fn print(rt: &impl Print) -> io::Result<()> {
     sample(rt)?;
-    counted(rt, b"add with weak 2 of 1", 2, 1, 0.0)?;
-    counted(rt, b"add with weak 2 of 1, damping -1", 2, 1, -1.0)?;
-    counted(rt, b"add with 65,535 blocks", 0, 65535, 0.0)?;
-    counted(rt, b"add with 65,534 blocks", 0, 65534, 0.0)?;
-    counted(rt, b"add at damping -1", 0, 0, -1.0)?;
-    predicted(rt, b"predicted reduction at damping 1", 1.0)?;
-    predicted(rt, b"predicted reduction at damping -1", -1.0)?;
-    scaled(rt, b"gradient norm of zeros", 0.0, 0.0)?;
-    scaled(rt, b"gradient norm by a diagonal of zeros", 1.0, 0.0)?;
+    counted(rt, "add with weak 2 of 1", 2, 1, 0.0)?;
+    counted(rt, "add with weak 2 of 1, damping -1", 2, 1, -1.0)?;
+    counted(rt, "add with 65,535 blocks", 0, 65535, 0.0)?;
+    counted(rt, "add with 65,534 blocks", 0, 65534, 0.0)?;
+    counted(rt, "add at damping -1", 0, 0, -1.0)?;
+    predicted(rt, "predicted reduction at damping 1", 1.0)?;
+    predicted(rt, "predicted reduction at damping -1", -1.0)?;
+    scaled(rt, "gradient norm of zeros", 0.0, 0.0)?;
+    scaled(rt, "gradient norm by a diagonal of zeros", 1.0, 0.0)?;
     scaled(
         rt,
-        b"gradient norm by an infinite diagonal",
+        "gradient norm by an infinite diagonal",
         1.0,
         number::from_bits(0x7FF0_0000_0000_0000),
     )?;
-    scaled(rt, b"gradient norm by a diagonal of 4", 1.0, 4.0)?;
-    scaled(rt, b"gradient norm of a NaN", f64::NAN, 4.0)?;
+    scaled(rt, "gradient norm by a diagonal of 4", 1.0, 4.0)?;
+    scaled(rt, "gradient norm of a NaN", f64::NAN, 4.0)?;
     floored(rt)
 }
 
@@ -39,19 +40,16 @@ fn sample(rt: &impl Print) -> io::Result<()> {
     let mut system = ReducedSystem::new();
     for (index, (x, y, off)) in points.into_iter().enumerate() {
         let block = seen(x, y, off);
-        let letter = letters::letter(block, 0.0);
-        show::text(rt, b"sample p")?;
-        show::count(rt, index as u64)?;
-        show::text(rt, &[b' ', letter])?;
-        show::end(rt)?;
+        let letter = char::from(letters::letter(block, 0.0));
+        println!(rt; "sample p {index} {letter}")?;
         system = schur::add(system, block, 0.0).unwrap_or(system);
     }
     let last = system.finish_damping(0.0).unwrap_or(system);
-    show::text(rt, b"sample sum")?;
-    show::patterns(rt, &[last.cost, last.squared_residual])?;
-    show::count(rt, last.weak_point_count as u64)?;
-    show::text(rt, if last.is_valid() { b" y" } else { b" n" })?;
-    show::end(rt)
+    let cost = number::to_bits(last.cost);
+    let squared_residual = number::to_bits(last.squared_residual);
+    let weak = last.weak_point_count;
+    let valid = if last.is_valid() { 'y' } else { 'n' };
+    println!(rt; "sample sum {cost:016X} {squared_residual:016X} {weak} {valid}")
 }
 
 // The block of (x, y, 1), seen without error but for view 1, `off` too high
@@ -84,32 +82,35 @@ fn seen(x: f64, y: f64, off: f64) -> LocalLinearization {
 }
 
 // `add` on a system with these counts: its refusal, or the counts that it leaves
-fn counted(rt: &impl Print, name: &[u8], weak: u16, blocks: u16, damping: f64) -> io::Result<()> {
+fn counted(rt: &impl Print, name: &str, weak: u16, blocks: u16, damping: f64) -> io::Result<()> {
     let mut system = ReducedSystem::new();
     system.weak_point_count = weak;
     system.block_count = blocks;
     let added = schur::add(system, seen(1.0, 0.0, 0.0), damping);
     let next = added.unwrap_or(system);
-    show::text(rt, name)?;
-    show::text(rt, b":")?;
-    show::count(rt, next.weak_point_count as u64)?;
-    show::count(rt, next.block_count as u64)?;
-    show::refused_if(rt, added.err())?;
-    show::end(rt)
+    let (weak, blocks) = (next.weak_point_count, next.block_count);
+    print!(rt; "{name}: {weak} {blocks}")?;
+    end(rt, added.err())
 }
 
 // What is predicted, +0 beside a refusal
-fn predicted(rt: &impl Print, name: &[u8], damping: f64) -> io::Result<()> {
+fn predicted(rt: &impl Print, name: &str, damping: f64) -> io::Result<()> {
     let predicted = ReducedSystem::new().predicted_reduction([0.0; 5], damping, 3.0);
-    show::text(rt, name)?;
-    show::text(rt, b":")?;
-    show::pattern(rt, number::to_bits(predicted.unwrap_or(0.0)))?;
-    show::refused_if(rt, predicted.err())?;
-    show::end(rt)
+    let reduction = number::to_bits(predicted.unwrap_or(0.0));
+    print!(rt; "{name}: {reduction:016X}")?;
+    end(rt, predicted.err())
+}
+
+// The end of a line: the refusal, where there is one
+fn end(rt: &impl Print, refusal: Option<Refusal>) -> io::Result<()> {
+    match refusal {
+        Some(refusal) => println!(rt; " {refusal}"),
+        None => println!(rt),
+    }
 }
 
 // The norm of a system with one gradient entry and one entry of the diagonal
-fn scaled(rt: &impl Print, name: &[u8], gradient: f64, diagonal: f64) -> io::Result<()> {
+fn scaled(rt: &impl Print, name: &str, gradient: f64, diagonal: f64) -> io::Result<()> {
     let mut system = ReducedSystem::new();
     let g = [gradient, 0.0, 0.0, 0.0, 0.0];
     let d = [diagonal, 0.0, 0.0, 0.0, 0.0];
@@ -122,5 +123,5 @@ fn scaled(rt: &impl Print, name: &[u8], gradient: f64, diagonal: f64) -> io::Res
 fn floored(rt: &impl Print) -> io::Result<()> {
     let new = ReducedSystem::new();
     let system = new.finish_damping(1.0).unwrap_or(new);
-    show::named(rt, b"damping without curvature", system.hessian[24])
+    show::named(rt, "damping without curvature", system.hessian[24])
 }

@@ -72,7 +72,7 @@ fn block(x: f64, y: f64, z: f64) -> LocalLinearization {
 fn added(rt: &impl Print, both: Both, local: LocalLinearization, damping: f64) -> io::Result<Both> {
     let (lent, one) = added_in_place(both.lent, local, damping);
     let two = schur::add(both.by_value, local, damping);
-    pair(rt, b"refusal", row(one.err()), row(two.err()))?;
+    pair(rt, "refusal", row(one.err()), row(two.err()))?;
     Ok(Both {
         lent,
         by_value: two.unwrap_or(both.by_value),
@@ -93,10 +93,7 @@ fn added_in_place(
 }
 
 fn row(refusal: Option<Refusal>) -> u64 {
-    match refusal {
-        Some(refusal) => refusal.row().number as u64,
-        None => 0,
-    }
+    refusal.map_or(0, |refusal| u64::from(refusal.row().number))
 }
 
 fn print(rt: &impl Print, both: Both) -> io::Result<()> {
@@ -104,69 +101,66 @@ fn print(rt: &impl Print, both: Both) -> io::Result<()> {
     let b = both.by_value;
     hessians(rt, a, b)?;
     vectors(rt, a, b)?;
-    numbers(rt, b"cost", a.cost, b.cost)?;
+    numbers(rt, "cost", a.cost, b.cost)?;
     numbers(
         rt,
-        b"squared residual",
+        "squared residual",
         a.squared_residual,
         b.squared_residual,
     )?;
     numbers(
         rt,
-        b"point reduction",
+        "point reduction",
         a.point_model_reduction,
         b.point_model_reduction,
     )?;
     numbers(
         rt,
-        b"point gradient norm",
+        "point gradient norm",
         a.scaled_point_gradient_inf_norm,
         b.scaled_point_gradient_inf_norm,
     )?;
     numbers(
         rt,
-        b"smallest rcond",
+        "smallest rcond",
         a.minimum_point_rcond,
         b.minimum_point_rcond,
     )?;
     pair(
         rt,
-        b"weak points",
+        "weak points",
         a.weak_point_count as u64,
         b.weak_point_count as u64,
     )?;
-    pair(rt, b"blocks", a.block_count as u64, b.block_count as u64)?;
-    pair(rt, b"valid", a.valid as u64, b.valid as u64)
+    pair(rt, "blocks", a.block_count as u64, b.block_count as u64)?;
+    pair(rt, "valid", a.valid as u64, b.valid as u64)
 }
 
 fn hessians(rt: &impl Print, a: ReducedSystem, b: ReducedSystem) -> io::Result<()> {
     for (x, y) in a.hessian.iter().zip(&b.hessian) {
-        numbers(rt, b"hessian", *x, *y)?;
+        numbers(rt, "hessian", *x, *y)?;
     }
     Ok(())
 }
 
 fn vectors(rt: &impl Print, a: ReducedSystem, b: ReducedSystem) -> io::Result<()> {
     for i in 0..5 {
-        numbers(rt, b"gradient", a.gradient[i], b.gradient[i])?;
+        numbers(rt, "gradient", a.gradient[i], b.gradient[i])?;
         numbers(
             rt,
-            b"full pose gradient",
+            "full pose gradient",
             a.full_pose_gradient[i],
             b.full_pose_gradient[i],
         )?;
-        numbers(rt, b"pose diagonal", a.pose_diagonal[i], b.pose_diagonal[i])?;
+        numbers(rt, "pose diagonal", a.pose_diagonal[i], b.pose_diagonal[i])?;
     }
     Ok(())
 }
 
-fn numbers(rt: &impl Print, name: &[u8], a: f64, b: f64) -> io::Result<()> {
+fn numbers(rt: &impl Print, name: &str, a: f64, b: f64) -> io::Result<()> {
     pair(rt, name, number::to_bits(a), number::to_bits(b))
 }
 
-fn pair(rt: &impl Print, name: &[u8], a: u64, b: u64) -> io::Result<()> {
-    show::text(rt, name)?;
-    show::pattern(rt, a)?;
-    show::pattern(rt, b)?;
-    show::end(rt)
+fn pair(rt: &impl Print, name: &str, a: u64, b: u64) -> io::Result<()> {
+    println!(rt; "{name} {a:016X} {b:016X}")
 }

@@ -112,8 +112,7 @@ impl Difference {
             Difference::OutOfForm => println!(rt; " is out of form"),
             Difference::Code(code) => {
                 print!(rt; " gave {code}")?;
-                show::patterns(rt, outputs)?;
-                show::end(rt)
+                show::patterns(rt, outputs)
             }
         }
     }

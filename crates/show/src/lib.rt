@@ -1,48 +1,19 @@
-// What the test programs print: a name, patterns as sixteen capital hexadecimal digits, counts, refusals.
+// What the test programs print: numbers as the sixteen capital hexadecimal digits of their patterns.
 #![tactic(auto)]
 
-use refusal::Refusal;
 use std::io;
 
 // A line: a figure's name and its value's pattern
-pub fn named(rt: &impl Print, name: &[u8], x: f64) -> io::Result<()> {
-    rt.write_all(name)?;
-    pattern(rt, number::to_bits(x))?;
-    end(rt)
+pub fn named(rt: &impl Print, name: &str, x: f64) -> io::Result<()> {
+    let pattern = number::to_bits(x);
+    println!(rt; "{name} {pattern:016X}")
 }
 
-pub fn text(rt: &impl Print, words: &[u8]) -> io::Result<()> {
-    rt.write_all(words)
-}
-
-pub fn end(rt: &impl Print) -> io::Result<()> {
-    rt.write_all(b"\n")
-}
-
-pub fn pattern(rt: &impl Print, b: u64) -> io::Result<()> {
-    print!(rt; " {b:016X}")
-}
-
+// The end of a line: a space and its pattern, for each value
 pub fn patterns(rt: &impl Print, values: &[f64]) -> io::Result<()> {
     for x in values {
-        pattern(rt, number::to_bits(*x))?;
+        let pattern = number::to_bits(*x);
+        print!(rt; " {pattern:016X}")?;
     }
-    Ok(())
-}
-
-pub fn count(rt: &impl Print, n: u64) -> io::Result<()> {
-    print!(rt; " {n}")
-}
-
-// A space, and the refusal as it displays
-pub fn refused(rt: &impl Print, refusal: Refusal) -> io::Result<()> {
-    print!(rt; " {refusal}")
-}
-
-// The same, where there is one
-pub fn refused_if(rt: &impl Print, refusal: Option<Refusal>) -> io::Result<()> {
-    match refusal {
-        Some(refusal) => refused(rt, refusal),
-        None => Ok(()),
-    }
+    println!(rt)
 }

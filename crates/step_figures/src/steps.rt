@@ -23,75 +23,74 @@ struct Problem {
 }
 
 pub fn print(rt: &impl Print) -> io::Result<()> {
-    limited(rt, b"pose step (1, 0, 0, 0, 0) limited", 1.0)?;
-    limited(rt, b"pose step (0.5, 0, 0, 0, 0) limited", 0.5)?;
-    stepped(rt, b"step of a sound problem", sound(), 5, 10)?;
+    limited(rt, "pose step (1, 0, 0, 0, 0) limited", 1.0)?;
+    limited(rt, "pose step (0.5, 0, 0, 0, 0) limited", 0.5)?;
+    stepped(rt, "step of a sound problem", sound(), 5, 10)?;
     lengths(rt)?;
     values(rt)?;
     seen(rt)?;
     equations(rt)
 }
 
-fn limited(rt: &impl Print, name: &[u8], x: f64) -> io::Result<()> {
+fn limited(rt: &impl Print, name: &str, x: f64) -> io::Result<()> {
     let step = pose_step::limit_pose_step([x, 0.0, 0.0, 0.0, 0.0]);
-    show::text(rt, name)?;
-    show::patterns(rt, &step)?;
-    show::end(rt)
+    print!(rt; "{name}")?;
+    show::patterns(rt, &step)
 }
 
 // Rows 1 and 2
 fn lengths(rt: &impl Print) -> io::Result<()> {
-    stepped(rt, b"step, 9 numbers in view 1", sound(), 5, 9)?;
-    many(rt, b"step, rows 1 and 2", 131071, 1.0)?;
-    many(rt, b"step, 65,536 points", 131072, 1.0)?;
-    many(rt, b"step, rows 2 and 3", 131072, -1.0)
+    stepped(rt, "step, 9 numbers in view 1", sound(), 5, 9)?;
+    many(rt, "step, rows 1 and 2", 131071, 1.0)?;
+    many(rt, "step, 65,536 points", 131072, 1.0)?;
+    many(rt, "step, rows 2 and 3", 131072, -1.0)
 }
 
 // Rows 3 to 6
 fn values(rt: &impl Print) -> io::Result<()> {
     let mut p = sound();
     p.damping = -1.0;
-    stepped(rt, b"step, damping -1", p, 5, 10)?;
+    stepped(rt, "step, damping -1", p, 5, 10)?;
     p.deviation = 0.0;
-    stepped(rt, b"step, rows 3 and 4", p, 5, 10)?;
+    stepped(rt, "step, rows 3 and 4", p, 5, 10)?;
     p.damping = 1.0;
-    stepped(rt, b"step, inverse deviation 0 at index 2", p, 5, 10)?;
+    stepped(rt, "step, inverse deviation 0 at index 2", p, 5, 10)?;
     p.baseline = number::EPSILON64;
-    stepped(rt, b"step, rows 4 and 5", p, 5, 10)?;
+    stepped(rt, "step, rows 4 and 5", p, 5, 10)?;
     p.deviation = 1.0;
-    stepped(rt, b"step, baseline 2^-46", p, 5, 10)?;
+    stepped(rt, "step, baseline 2^-46", p, 5, 10)?;
     p.x = f64::NAN;
-    stepped(rt, b"step, rows 5 and 6", p, 5, 10)?;
+    stepped(rt, "step, rows 5 and 6", p, 5, 10)?;
     p.baseline = 1.0;
-    stepped(rt, b"step, NaN at index 0", p, 5, 10)?;
-    stepped(rt, b"step, rows 6 and 7", p, 4, 8)
+    stepped(rt, "step, NaN at index 0", p, 5, 10)?;
+    stepped(rt, "step, rows 6 and 7", p, 4, 8)
 }
 
 // Rows 7 to 9
 fn seen(rt: &impl Print) -> io::Result<()> {
     let mut p = sound();
-    stepped(rt, b"step, 4 points", p, 4, 8)?;
+    stepped(rt, "step, 4 points", p, 4, 8)?;
     p.seen = number::from_bits(0x7FF0_0000_0000_0000);
-    stepped(rt, b"step, rows 7 and 8", p, 4, 8)?;
-    stepped(rt, b"step, infinity in view 2 at index 3", p, 5, 10)?;
+    stepped(rt, "step, rows 7 and 8", p, 4, 8)?;
+    stepped(rt, "step, infinity in view 2 at index 3", p, 5, 10)?;
     p.depth = 0.0;
-    stepped(rt, b"step, rows 8 and 9", p, 5, 10)?;
+    stepped(rt, "step, rows 8 and 9", p, 5, 10)?;
     p.seen = 1.0;
-    stepped(rt, b"step, point (0, 0, 0)", p, 5, 10)?;
+    stepped(rt, "step, point (0, 0, 0)", p, 5, 10)?;
     p.focal = 0.0;
-    stepped(rt, b"step, rows 9 and 10", p, 5, 10)
+    stepped(rt, "step, rows 9 and 10", p, 5, 10)
 }
 
 // Rows 10 and 11
 fn equations(rt: &impl Print) -> io::Result<()> {
     let mut p = sound();
     p.focal = 0.0;
-    stepped(rt, b"step, blocks of zeros", p, 5, 10)?;
+    stepped(rt, "step, blocks of zeros", p, 5, 10)?;
     p.basis = 0.0;
     p.damping = 0.0;
-    stepped(rt, b"step, rows 10 and 11", p, 5, 10)?;
+    stepped(rt, "step, rows 10 and 11", p, 5, 10)?;
     p.focal = 1.0;
-    stepped(rt, b"step, basis of zeros at damping 0", p, 5, 10)
+    stepped(rt, "step, basis of zeros at damping 0", p, 5, 10)
 }
 
 fn sound() -> Problem {
@@ -129,7 +128,7 @@ fn rig(p: Problem) -> Rig {
 }
 
 // The step of the first n points, with so many numbers of view 1
-fn stepped(rt: &impl Print, name: &[u8], p: Problem, n: usize, in_view1: usize) -> io::Result<()>
+fn stepped(rt: &impl Print, name: &str, p: Problem, n: usize, in_view1: usize) -> io::Result<()>
     requires { (n ≤ 5) × (in_view1 ≤ 10) }
 {
     let points = [
@@ -151,7 +150,7 @@ fn stepped(rt: &impl Print, name: &[u8], p: Problem, n: usize, in_view1: usize) 
 }
 
 // 65,536 points, and so many numbers in view 1
-fn many(rt: &impl Print, name: &[u8], in_view1: usize, damping: f64) -> io::Result<()>
+fn many(rt: &impl Print, name: &str, in_view1: usize, damping: f64) -> io::Result<()>
     requires { in_view1 ≤ 196608 }
 {
     let zeros = [0.0; 196608];
@@ -168,12 +167,10 @@ fn many(rt: &impl Print, name: &[u8], in_view1: usize, damping: f64) -> io::Resu
 }
 
 // The refusal, or cost and squared residual
-fn show_step(rt: &impl Print, name: &[u8], done: Result<StepResult, Refusal>) -> io::Result<()> {
-    show::text(rt, name)?;
-    show::text(rt, b":")?;
+fn show_step(rt: &impl Print, name: &str, done: Result<StepResult, Refusal>) -> io::Result<()> {
+    print!(rt; "{name}:")?;
     match done {
-        Ok(step) => show::patterns(rt, &[step.cost, step.squared_residual])?,
-        Err(refusal) => show::refused(rt, refusal)?,
+        Ok(step) => show::patterns(rt, &[step.cost, step.squared_residual]),
+        Err(refusal) => println!(rt; " {refusal}"),
     }
-    show::end(rt)
 }
