@@ -20,5 +20,8 @@ fn main(rt: HostRuntime) -> io::Result<()> {
 
     let mut text = [0u8; 16384];
     let n = stored_file::read_full(&mut rt.reader(), &mut text);
-    roots::print(&rt, &text[..n])
+    match str::from_utf8(&text[..n]) {
+        Ok(text) => roots::print(&rt, text),
+        Err(_) => println!(rt; "standard input is not text"),
+    }
 }
