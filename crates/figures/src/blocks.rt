@@ -14,9 +14,9 @@ pub fn print(rt: &impl Print) -> io::Result<()> {
     diagonal(rt, "block of zeros", 0.0, 0.0, 0.0, 0.0)?;
     diagonal(rt, "block (1, 1, 1) damped by -1", 1.0, 1.0, 1.0, -1.0)?;
     diagonal(rt, "block (1, 1, 1) damped by -0", 1.0, 1.0, 1.0, -0.0)?;
-    scaled(rt, "solve by the identity", 1.0)?;
-    scaled(rt, "solve by zeros", 0.0)?;
-    scaled(rt, "solve by minus the identity", -1.0)
+    solved(rt, "solve by the identity", 1.0)?;
+    solved(rt, "solve by zeros", 0.0)?;
+    solved(rt, "solve by minus the identity", -1.0)
 }
 
 // The diagonal (1, 1, c), where c is given by its bits
@@ -37,7 +37,7 @@ fn diagonal(rt: &impl Print, name: &str, a: f64, b: f64, c: f64, damping: f64) -
 }
 
 // The solution of (d times the identity) x = (1, 2, 3, 4, 5)
-fn scaled(rt: &impl Print, name: &str, d: f64) -> io::Result<()> {
+fn solved(rt: &impl Print, name: &str, d: f64) -> io::Result<()> {
     let mut a = [0.0; 25];
     a[0] = d;
     a[6] = d;

@@ -15,16 +15,16 @@ pub fn print(rt: &impl Print) -> io::Result<()> {
     counted(rt, "add at damping -1", 0, 0, -1.0)?;
     predicted(rt, "predicted reduction at damping 1", 1.0)?;
     predicted(rt, "predicted reduction at damping -1", -1.0)?;
-    scaled(rt, "gradient norm of zeros", 0.0, 0.0)?;
-    scaled(rt, "gradient norm by a diagonal of zeros", 1.0, 0.0)?;
-    scaled(
+    gradient_norm(rt, "gradient norm of zeros", 0.0, 0.0)?;
+    gradient_norm(rt, "gradient norm by a diagonal of zeros", 1.0, 0.0)?;
+    gradient_norm(
         rt,
         "gradient norm by an infinite diagonal",
         1.0,
         number::from_bits(0x7FF0_0000_0000_0000),
     )?;
-    scaled(rt, "gradient norm by a diagonal of 4", 1.0, 4.0)?;
-    scaled(rt, "gradient norm of a NaN", f64::NAN, 4.0)?;
+    gradient_norm(rt, "gradient norm by a diagonal of 4", 1.0, 4.0)?;
+    gradient_norm(rt, "gradient norm of a NaN", f64::NAN, 4.0)?;
     floored(rt)
 }
 
@@ -110,7 +110,7 @@ fn end(rt: &impl Print, refusal: Option<Refusal>) -> io::Result<()> {
 }
 
 // The norm of a system with one gradient entry and one entry of the diagonal
-fn scaled(rt: &impl Print, name: &str, gradient: f64, diagonal: f64) -> io::Result<()> {
+fn gradient_norm(rt: &impl Print, name: &str, gradient: f64, diagonal: f64) -> io::Result<()> {
     let mut system = ReducedSystem::new();
     let g = [gradient, 0.0, 0.0, 0.0, 0.0];
     let d = [diagonal, 0.0, 0.0, 0.0, 0.0];

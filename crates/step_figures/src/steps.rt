@@ -2,7 +2,7 @@
 // each other met at once, where the earlier one is given.
 ghost use Rattle.std.specs.Prelude.{◌≤◌};
 
-use correspondences::{Problem as Lent, Rig};
+use correspondences::{Problem, Rig};
 use projection::PinholeCamera;
 use refusal::Refusal;
 use std::io;
@@ -11,7 +11,7 @@ use views::Pose;
 
 // What is varied of five points at depth 1, seen without error by two cameras that stand one apart
 #[derive(Clone, Copy)]
-struct Problem {
+struct Sample {
     x: f64,
     depth: f64,
     seen: f64,
@@ -93,8 +93,8 @@ fn equations(rt: &impl Print) -> io::Result<()> {
     stepped(rt, "step, basis of zeros at damping 0", p, 5, 10)
 }
 
-fn sound() -> Problem {
-    Problem {
+fn sound() -> Sample {
+    Sample {
         x: 0.0,
         depth: 1.0,
         seen: 1.0,
@@ -106,7 +106,7 @@ fn sound() -> Problem {
     }
 }
 
-fn rig(p: Problem) -> Rig {
+fn rig(p: Sample) -> Rig {
     let camera = PinholeCamera {
         fx: p.focal,
         fy: p.focal,
@@ -128,7 +128,7 @@ fn rig(p: Problem) -> Rig {
 }
 
 // The step of the first n points, with so many numbers of view 1
-fn stepped(rt: &impl Print, name: &str, p: Problem, n: usize, in_view1: usize) -> io::Result<()>
+fn stepped(rt: &impl Print, name: &str, p: Sample, n: usize, in_view1: usize) -> io::Result<()>
     requires { (n ≤ 5) × (in_view1 ≤ 10) }
 {
     let points = [
@@ -138,7 +138,7 @@ fn stepped(rt: &impl Print, name: &str, p: Problem, n: usize, in_view1: usize) -
     let view2 = [1.0, 0.0, 2.0, 0.0, 0.0, 0.0, p.seen, 1.0, 1.0, -1.0];
     let deviations = [1.0, 1.0, p.deviation, 1.0, 1.0];
     let mut room = [0.0; 15];
-    let lent = Lent {
+    let problem = Problem {
         points: &points[0..3 * n],
         view1: &view1[0..in_view1],
         view2: &view2[0..2 * n],
@@ -146,7 +146,7 @@ fn stepped(rt: &impl Print, name: &str, p: Problem, n: usize, in_view1: usize) -
         rig: rig(p),
         damping: p.damping,
     };
-    show_step(rt, name, optimizer::step(&lent, &mut room[0..3 * n]))
+    show_step(rt, name, optimizer::step(&problem, &mut room[0..3 * n]))
 }
 
 // 65,536 points, and so many numbers in view 1
@@ -155,7 +155,7 @@ fn many(rt: &impl Print, name: &str, in_view1: usize, damping: f64) -> io::Resul
 {
     let zeros = [0.0; 196608];
     let mut room = [0.0; 196608];
-    let lent = Lent {
+    let problem = Problem {
         points: &zeros,
         view1: &zeros[0..in_view1],
         view2: &zeros[0..131072],
@@ -163,7 +163,7 @@ fn many(rt: &impl Print, name: &str, in_view1: usize, damping: f64) -> io::Resul
         rig: rig(sound()),
         damping,
     };
-    show_step(rt, name, optimizer::step(&lent, &mut room))
+    show_step(rt, name, optimizer::step(&problem, &mut room))
 }
 
 // The refusal, or cost and squared residual
