@@ -1,8 +1,22 @@
 // A line of stored answers: its reader, and whether an answer is the stored one.
 #![tactic(auto)]
 
-// No call has more inputs.
-pub const MOST: usize = 108;
+// An array of numbers, of any length: a bound by `Fn` can name a type, and not a length
+pub trait Numbers: Copy {
+    fn zeros() -> Self;
+
+    fn as_mut_slice(&mut self) -> &mut [f64];
+}
+
+impl<const N: usize> Numbers for [f64; N] {
+    fn zeros() -> Self {
+        [0.0; N]
+    }
+
+    fn as_mut_slice(&mut self) -> &mut [f64] {
+        self
+    }
+}
 
 // A line: the inputs' patterns, ` = `, and the answer
 #[derive(Clone, Copy)]
@@ -26,11 +40,11 @@ impl<'a> Case<'a> {
         Some(Self { inputs, answer })
     }
 
-    // The inputs, in front of zeros; none where there are not `count`
-    pub fn inputs(&self, count: usize) -> Option<[f64; MOST]> {
+    // The inputs; none where there are more or fewer
+    pub fn inputs<I: Numbers>(&self) -> Option<I> {
         let mut words = self.inputs.split(' ');
-        let mut inputs = [0.0; MOST];
-        for x in inputs.iter_mut().take(count) {
+        let mut inputs = I::zeros();
+        for x in inputs.as_mut_slice() {
             *x = number::from_bits(pattern(words.next()?)?);
         }
         match words.next() {

@@ -1,74 +1,47 @@
 // The files of stored answers, and what is written of each.
-use cases::{Case, MOST};
+use cases::{Case, Numbers};
 use std::io;
 use std::rt::Files;
 
 // A file has at most 300,000 bytes.
 pub const ROOM: usize = 300_001;
 
-// No call has more outputs.
-const MOST_OUTPUTS: usize = 59;
-
-// A file of stored answers, and how many inputs and outputs stand on its lines
-#[derive(Clone, Copy)]
-pub struct Stored<'a> {
-    file: &'a str,
-    inputs: usize,
-    outputs: usize,
-}
-
-impl<'a> Stored<'a> {
-    pub fn new(file: &'a str, inputs: usize, outputs: usize) -> Self {
-        Self {
-            file,
-            inputs,
-            outputs,
-        }
-    }
-}
-
-// Makes the call of each line: it gets the inputs in front of zeros and room for just the outputs, and
-// answers its code. Counts pass as the numbers whose patterns they are.
-pub fn replay<F: Fn(&[f64; MOST], &mut [f64]) -> u64>(
+// Makes the call of each line of a file of stored answers: it gets the inputs and room for the outputs,
+// and answers its code. Counts pass as the numbers whose patterns they are.
+pub fn replay<I: Numbers, O: Numbers, F: Fn(&I, &mut O) -> u64>(
     rt: &(impl Files + Print),
     room: &mut [u8],
-    stored: Stored,
+    file: &str,
     call: F,
 ) -> io::Result<()>
     requires { F.IsAlwaysCallable call }
 {
-    let n = stored_file::read(rt, stored.file.as_bytes(), room);
+    let n = stored_file::read(rt, file.as_bytes(), room);
     match str::from_utf8(&room[..n]) {
-        Ok(text) => lines(rt, stored, text, &call),
-        Err(_) => {
-            let file = stored.file;
-            println!(rt; "{file} is not text")
-        }
+        Ok(text) => lines(rt, file, text, &call),
+        Err(_) => println!(rt; "{file} is not text"),
     }
 }
 
-fn lines<F: Fn(&[f64; MOST], &mut [f64]) -> u64>(
+fn lines<I: Numbers, O: Numbers, F: Fn(&I, &mut O) -> u64>(
     rt: &impl Print,
-    stored: Stored,
+    file: &str,
     text: &str,
     call: &F,
 ) -> io::Result<()>
     requires { F.IsAlwaysCallable call.now }
 {
-    let name = stored.file.strip_suffix(".txt").unwrap_or(stored.file);
+    let name = file.strip_suffix(".txt").unwrap_or(file);
     let mut differences = 0u64;
     for (i, line) in text.lines().enumerate() {
-        let mut room = [0.0; MOST_OUTPUTS];
-        let Some(outputs) = room.get_mut(..stored.outputs) else {
-            return Ok(());
-        };
-        let Err(difference) = outcome(line, stored.inputs, outputs, call) else {
+        let mut outputs = O::zeros();
+        let Err(difference) = outcome(line, &mut outputs, call) else {
             continue;
         };
         if differences < 3 {
             let number = i.saturating_add(1);
             print!(rt; "{name} line {number}")?;
-            difference.show(rt, outputs)?;
+            difference.show(rt, outputs.as_mut_slice())?;
         }
         differences = differences.saturating_add(1);
     }
@@ -84,22 +57,17 @@ enum Difference {
     Code(u64),
 }
 
-fn outcome<F: Fn(&[f64; MOST], &mut [f64]) -> u64>(
+fn outcome<I: Numbers, O: Numbers, F: Fn(&I, &mut O) -> u64>(
     line: &str,
-    inputs: usize,
-    outputs: &mut [f64],
+    outputs: &mut O,
     call: &F,
 ) -> Result<(), Difference>
     requires { F.IsAlwaysCallable call.now }
 {
-    let Some(case) = Case::read(line) else {
-        return Err(Difference::OutOfForm);
-    };
-    let Some(inputs) = case.inputs(inputs) else {
-        return Err(Difference::OutOfForm);
-    };
+    let case = Case::read(line).ok_or(Difference::OutOfForm)?;
+    let inputs = case.inputs().ok_or(Difference::OutOfForm)?;
     let code = call(&inputs, outputs);
-    if case.agrees(code, outputs) {
+    if case.agrees(code, outputs.as_mut_slice()) {
         Ok(())
     } else {
         Err(Difference::Code(code))
@@ -123,8 +91,8 @@ fn is_refused(line: &str) -> bool {
 }
 
 // A call that gives one number and never refuses
-pub fn give(value: f64, outputs: &mut [f64]) -> u64 {
-    slices::copy(&[value], 0, outputs);
+pub fn give(value: f64, outputs: &mut [f64; 1]) -> u64 {
+    *outputs = [value];
     0
 }
 

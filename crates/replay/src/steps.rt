@@ -1,20 +1,19 @@
 // The calls of `step_calls`; the whole step has five points.
-use crate::files::{self, Stored, pattern};
-use cases::MOST;
+use crate::files::{self, pattern};
 use std::io;
 use std::rt::Files;
 
 pub fn replay(rt: &(impl Files + Print), room: &mut [u8]) -> io::Result<()> {
-    files::replay(rt, room, Stored::new("step.txt", 70, 28), step)?;
+    files::replay(rt, room, "step.txt", step)?;
     files::replay(
         rt,
         room,
-        Stored::new("limit_pose_step.txt", 5, 5),
-        |x: &[f64; MOST], out: &mut [f64]| { step_calls::limit_pose_step(&x[..5], out) },
+        "limit_pose_step.txt",
+        |x: &[f64; 5], out: &mut [f64; 5]| { step_calls::limit_pose_step(x, out) },
     )
 }
 
-fn step(x: &[f64; MOST], out: &mut [f64]) -> u64 {
+fn step(x: &[f64; 70], out: &mut [f64; 28]) -> u64 {
     let mut room = [0.0; 15];
     let mut values = [0.0; 12];
     let mut weak = [0; 1];

@@ -1,6 +1,5 @@
 // The calls of `system_calls`.
-use crate::files::{self, Stored, pattern};
-use cases::MOST;
+use crate::files::{self, pattern};
 use std::io;
 use std::rt::Files;
 
@@ -12,25 +11,15 @@ struct System {
 }
 
 pub fn replay(rt: &(impl Files + Print), room: &mut [u8]) -> io::Result<()> {
-    files::replay(rt, room, Stored::new("system_new.txt", 48, 48), new)?;
-    files::replay(rt, room, Stored::new("system_add.txt", 108, 48), add)?;
+    files::replay(rt, room, "system_new.txt", new)?;
+    files::replay(rt, room, "system_add.txt", add)?;
+    files::replay(rt, room, "system_finish_damping.txt", finish_damping)?;
+    files::replay(rt, room, "system_is_valid.txt", is_valid)?;
     files::replay(
         rt,
         room,
-        Stored::new("system_finish_damping.txt", 49, 48),
-        finish_damping,
-    )?;
-    files::replay(
-        rt,
-        room,
-        Stored::new("system_is_valid.txt", 48, 1),
-        is_valid,
-    )?;
-    files::replay(
-        rt,
-        room,
-        Stored::new("system_scaled_gradient_inf_norm.txt", 48, 1),
-        |x: &[f64; MOST], out: &mut [f64]| {
+        "system_scaled_gradient_inf_norm.txt",
+        |x: &[f64; 48], out: &mut [f64; 1]| {
             let system = System::of(x);
             system_calls::system_scaled_gradient_inf_norm(&system.numbers, &system.counts, out)
         },
@@ -38,19 +27,19 @@ pub fn replay(rt: &(impl Files + Print), room: &mut [u8]) -> io::Result<()> {
     files::replay(
         rt,
         room,
-        Stored::new("system_predicted_reduction.txt", 55, 1),
+        "system_predicted_reduction.txt",
         predicted_reduction,
     )
 }
 
-fn new(x: &[f64; MOST], out: &mut [f64]) -> u64 {
+fn new(x: &[f64; 48], out: &mut [f64; 48]) -> u64 {
     let mut system = System::of(x);
     let code = system_calls::system_new(&mut system.numbers, &mut system.counts);
     system.put(out);
     code
 }
 
-fn add(x: &[f64; MOST], out: &mut [f64]) -> u64 {
+fn add(x: &[f64; 108], out: &mut [f64; 48]) -> u64 {
     let mut system = System::of(x);
     let numbers = &mut system.numbers;
     let code = system_calls::system_add(numbers, &mut system.counts, &x[48..107], x[107]);
@@ -58,7 +47,7 @@ fn add(x: &[f64; MOST], out: &mut [f64]) -> u64 {
     code
 }
 
-fn finish_damping(x: &[f64; MOST], out: &mut [f64]) -> u64 {
+fn finish_damping(x: &[f64; 49], out: &mut [f64; 48]) -> u64 {
     let mut system = System::of(x);
     let numbers = &mut system.numbers;
     let code = system_calls::system_finish_damping(numbers, &mut system.counts, x[48]);
@@ -66,7 +55,7 @@ fn finish_damping(x: &[f64; MOST], out: &mut [f64]) -> u64 {
     code
 }
 
-fn is_valid(x: &[f64; MOST], out: &mut [f64]) -> u64 {
+fn is_valid(x: &[f64; 48], out: &mut [f64; 1]) -> u64 {
     let system = System::of(x);
     let mut valid = [0; 1];
     let code = system_calls::system_is_valid(&system.numbers, &system.counts, &mut valid);
@@ -74,7 +63,7 @@ fn is_valid(x: &[f64; MOST], out: &mut [f64]) -> u64 {
     code
 }
 
-fn predicted_reduction(x: &[f64; MOST], out: &mut [f64]) -> u64 {
+fn predicted_reduction(x: &[f64; 55], out: &mut [f64; 1]) -> u64 {
     let System { numbers, counts } = System::of(x);
     system_calls::system_predicted_reduction(&numbers, &counts, &x[48..53], x[53], x[54], out)
 }
@@ -88,7 +77,7 @@ impl System {
         }
     }
 
-    fn put(self, out: &mut [f64]) {
+    fn put(self, out: &mut [f64; 48]) {
         slices::copy(&self.numbers, 0, out);
         slices::copy(&self.counts.map(pattern), 45, out);
     }
