@@ -56,9 +56,7 @@ impl FittingProblem<'_> {
         ensures { result ≡ Checks.check_values (Problems.of self.now.problem.now) }
     {
         let problem = self.problem;
-        if !point_damping::good_damping(problem.damping) {
-            return Err(Refusal::Damping);
-        }
+        point_damping::check_damping(problem.damping)?;
         self.check_deviations()?;
         if !good_baseline(problem.rig.pose.baseline) {
             return Err(Refusal::Baseline);

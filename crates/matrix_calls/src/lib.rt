@@ -7,7 +7,6 @@ ghost use Rattle.answers.specs.Answers as Answers;
 ghost use Rattle.matrix_calls.specs.Calls as Calls;
 
 use point_block::{LoneFactor, PointBlockFactor};
-use refusal::Refusal;
 
 // out: 3
 #[tactic(auto, unfolding(crate::specs::Calls::damping_diagonal, answers::specs::Answers::answer))]
@@ -31,10 +30,9 @@ pub fn damped_matrix(matrix: &[f64], damping: f64, out: &mut [f64]) -> u64
     if matrix.len() != 9 || out.len() != 9 {
         return answers::lengths();
     }
-    if !point_damping::good_damping(damping) {
-        return answers::code(Refusal::Damping);
-    }
-    let damped = point_damping::damped_matrix(slices::vector(matrix, 0), damping);
+    let matrix = slices::vector(matrix, 0);
+    let checked = point_damping::check_damping(damping);
+    let damped = checked.and_then(|()| point_damping::damped_matrix(matrix, damping));
     answers::answer(damped, out)
 }
 

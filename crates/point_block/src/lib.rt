@@ -31,9 +31,7 @@ impl PointBlockFactor {
     pub fn new(matrix: [f64; 9], damping: f64) -> Result<LoneFactor, Refusal>
         ensures { result ≡ Lone.lone_factor matrix damping }
     {
-        if !point_damping::good_damping(damping) {
-            return Err(Refusal::Damping);
-        }
+        point_damping::check_damping(damping)?;
         let factor = Self::factor(matrix, damping)?;
         let rcond = factor.reciprocal_condition_number(matrix);
         Ok(LoneFactor { factor, rcond })

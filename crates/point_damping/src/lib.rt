@@ -7,6 +7,7 @@
 
 ghost use Rattle.std.specs.Prelude.{◌≡◌};
 ghost use Rattle.point_damping.specs.Damping as Damping;
+ghost use Rattle.refusal.specs.First as First;
 
 use refusal::Refusal;
 
@@ -16,6 +17,17 @@ pub fn good_damping(damping: f64) -> bool
     ensures { result ≡ Damping.good_damping damping }
 {
     number::is_finite(damping) & !(damping < 0.0)
+}
+
+// Row 3, for the callers that test it
+pub fn check_damping(damping: f64) -> Result<(), Refusal>
+    ensures { result ≡ First.unless (Damping.good_damping damping) Refusal.Damping }
+{
+    if good_damping(damping) {
+        Ok(())
+    } else {
+        Err(Refusal::Damping)
+    }
 }
 
 #[tactic(auto, unfolding(crate::specs::Damping::damped_matrix))]

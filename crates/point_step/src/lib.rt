@@ -40,9 +40,7 @@ pub fn step_of_terms(
 ) -> Result<PointStep, Refusal>
     ensures { result ≡ Steps.step_of_terms terms damping pose_step }
 {
-    if !point_damping::good_damping(damping) {
-        return Err(Refusal::Damping);
-    }
+    point_damping::check_damping(damping)?;
     let factor = PointBlockFactor::factor(terms.point_hessian, damping)?;
     stepped(factor, terms, pose_step)
 }

@@ -52,9 +52,7 @@ impl ReducedSystem {
     pub fn finish_damping(self, damping: f64) -> Result<Self, Refusal>
         ensures { result ≡ Model.finish_damping self damping }
     {
-        if !point_damping::good_damping(damping) {
-            return Err(Refusal::Damping);
-        }
+        point_damping::check_damping(damping)?;
         let hessian = pose_damping::damped_hessian(self.hessian, self.pose_diagonal, damping);
         Ok(self.with_hessian(hessian))
     }
@@ -86,11 +84,8 @@ impl ReducedSystem {
     ) -> Result<f64, Refusal>
         ensures { result ≡ Model.predicted_reduction self step damping point_damping_norm }
     {
-        if point_damping::good_damping(damping) {
-            Ok(self.reduction_of(step, damping, point_damping_norm))
-        } else {
-            Err(Refusal::Damping)
-        }
+        let checked = point_damping::check_damping(damping);
+        checked.map(|()| self.reduction_of(step, damping, point_damping_norm))
     }
 
     #[tactic(auto, unfolding(crate::specs::Model::reduction_of))]

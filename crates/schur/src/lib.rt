@@ -24,9 +24,7 @@ pub fn add(
 ) -> Result<ReducedSystem, Refusal>
     ensures { result ≡ System.add system local damping }
 {
-    if !point_damping::good_damping(damping) {
-        return Err(Refusal::Damping);
-    }
+    point_damping::check_damping(damping)?;
     if system.weak_point_count > system.block_count {
         return Err(Refusal::WeakCount);
     }
