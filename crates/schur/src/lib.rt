@@ -88,5 +88,5 @@ fn raised(by_one: bool, count: u16) -> u16
     requires { count < System.max_blocks }
     ensures { result ≡ System.raised by_one count }
 {
-    if by_one { count + 1 } else { count }
+    count + u16::from(by_one)
 }

@@ -124,5 +124,5 @@ fn answer(answered: Result<ReducedSystem, Refusal>, system: &mut [f64], counts: 
 fn flag(b: bool) -> u16
     ensures { result ≡ FlatNumbers.flag b }
 {
-    if b { 1 } else { 0 }
+    u16::from(b)
 }
