@@ -1,7 +1,7 @@
 -- The numbers of a record by column. Assumes nothing.
 use mathlib.Core.Path.{◌≡◌, ap, ◌∙◌}
 use mathlib.Core.List.{List}
-use Prim.Native.Nat.{ℕ, ◌*◌, ◌≤◌}
+use Prim.Native.Nat.{ℕ, ◌*◌, ◌≤◌, ◌<◌}
 use native.Mathlib.Nat.{mul-le-mul_right}
 use native.Mathlib.Omega.{arith}
 use lib.ListN.{take, drop}
@@ -12,10 +12,19 @@ use Rattle.number.proofs.Fill.{length_tabulate, filled}
 use Rattle.fields.specs.Fields.{point_fields}
 use Rattle.record_form.specs.Form.{Formed}
 use Rattle.record_form.proofs.Forms.{few_points}
+use Rattle.record.specs.declared.points.Column.{Column}
+use Rattle.record.specs.declared.points.Column.TheVariants.{Points, View1, View2, InverseDeviations}
+use Rattle.record.specs.Columns.{first, each}
+
+pub each_bounds : (c : Column) → (0 < each c) × (each c ≤ 3) × (first c ≤ 56)
+each_bounds Points = omega arith
+each_bounds View1 = omega arith
+each_bounds View2 = omega arith
+each_bounds InverseDeviations = omega arith
 
 -- at most three numbers each of at most 512 points
-pub few_numbers : (r : List ℕ) (each : ℕ) → Formed r → each ≤ 3 → each * point_fields r ≤ 1536
-few_numbers r each f h = let few = few_points r f in let k = mul-le-mul_right (point_fields r) h in omega arith
+pub few_numbers : (r : List ℕ) (c : Column) → Formed r → each c * point_fields r ≤ 1536
+few_numbers r c f = let few = few_points r f in let k = mul-le-mul_right (point_fields r) (each_bounds c).1 in omega arith
 
 -- the front of a list that is filled to there
 pub front_filled : (l h : List Float) (f : ℕ → Float) (k n : ℕ) → h ≡ filled l f k → k ≡ n → take n h ≡ tabulate n f

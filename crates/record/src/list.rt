@@ -7,7 +7,7 @@ ghost use Rattle.run.specs.Run as Run;
 ghost use Rattle.record.specs.Lists as Lists;
 ghost use Rattle.text.specs.Text as Text;
 
-use crate::points;
+use crate::points::Column;
 use crate::well_formed::WellFormedRecord;
 use correspondences::Problem;
 use reduced_system::ReducedSystem;
@@ -74,10 +74,10 @@ fn reduced_system(record: &WellFormedRecord) -> Result<ReducedSystem, Refusal>
     ensures { result ≡ Assembly.reduced (Run.run «record».now) }
 {
     let n = fields::point_fields(record.bytes);
-    let points = points::column(record, 0, 3);
-    let view1 = points::column(record, 24, 2);
-    let view2 = points::column(record, 40, 2);
-    let inverse_deviations = points::column(record, 56, 1);
+    let points = Column::Points.numbers(record);
+    let view1 = Column::View1.numbers(record);
+    let view2 = Column::View2.numbers(record);
+    let inverse_deviations = Column::InverseDeviations.numbers(record);
     assembly::reduced_system(&Problem {
         points: &points[..3 * n],
         view1: &view1[..2 * n],

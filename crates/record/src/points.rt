@@ -1,8 +1,8 @@
 // The numbers of the points of a record of the right form, by column.
-ghost use Rattle.std.specs.Prelude.{◌≡◌, ◌≤◌, ◌<◌, ◌*◌, ◌+◌, take};
+ghost use Rattle.std.specs.Prelude.{◌≡◌, ◌<◌, ◌*◌, take};
 ghost use Rattle.number.specs.Vectors as Vectors;
 ghost use Rattle.fields.specs.Fields as Fields;
-ghost use Rattle.run.specs.Run as Run;
+ghost use Rattle.record.specs.Columns as Columns;
 
 use crate::well_formed::WellFormedRecord;
 use fields::{HEAD_SIZE, NUMBER_SIZE, POINT_STRIDE, POINTS_AT};
@@ -10,26 +10,60 @@ use fields::{HEAD_SIZE, NUMBER_SIZE, POINT_STRIDE, POINTS_AT};
 // The most points of a record
 const MAX_POINTS: usize = 512;
 
-// The numbers of all points, `each` a point, which begin at `first` of the payload; zeros stand behind them
-#[tactic(auto, using(crate::proofs::Columns::few_numbers, crate::proofs::Columns::front_filled, number::proofs::Fill::fill_next))]
-pub(crate) fn column(record: &WellFormedRecord, first: usize, each: usize) -> [f64; 3 * MAX_POINTS]
-    requires { (0 < each) × (each ≤ 3) × (first ≤ 64) }
-    ensures { let count = each * Fields.point_fields «record».now in
-        take count result ≡ Vectors.tabulate count (Run.column «record».now first each) }
-{
-    let mut numbers = [0.0; 3 * MAX_POINTS];
-    for j in 0..each * fields::point_fields(record.bytes) {
-        numbers[j] = number_of(record.bytes, first, each, j);
-    }
-    numbers
+// Numbers that each point has, and that a problem has as one list
+#[derive(Clone, Copy)]
+pub(crate) enum Column {
+    Points,
+    View1,
+    View2,
+    InverseDeviations,
 }
 
-// Number j of those
-#[tactic(auto, unfolding(run::specs::Run::column))]
-fn number_of(record: &[u8], first: usize, each: usize, j: usize) -> f64
-    requires { (0 < each) × (each ≤ 3) × (first ≤ 64) × (j < 1536) }
-    ensures { result ≡ Run.column «record».now first each j }
-{
-    let point = POINTS_AT + HEAD_SIZE + first + POINT_STRIDE * (j / each);
-    run::number_at(record, point + NUMBER_SIZE * (j % each))
+impl Column {
+    // Its numbers of all points; zeros stand behind them
+    #[tactic(auto, using(crate::proofs::Columns::few_numbers, crate::proofs::Columns::front_filled, number::proofs::Fill::fill_next))]
+    pub(crate) fn numbers(self, record: &WellFormedRecord) -> [f64; 3 * MAX_POINTS]
+        ensures { let count = Columns.each self * Fields.point_fields «record».now in
+            take count result ≡ Vectors.tabulate count (Columns.number «record».now self) }
+    {
+        let mut numbers = [0.0; 3 * MAX_POINTS];
+        for j in 0..self.each() * fields::point_fields(record.bytes) {
+            numbers[j] = self.number(record.bytes, j);
+        }
+        numbers
+    }
+
+    // Number j of those
+    #[tactic(auto, unfolding(run::specs::Run::column), using(crate::proofs::Columns::each_bounds))]
+    fn number(self, record: &[u8], j: usize) -> f64
+        requires { j < 1536 }
+        ensures { result ≡ Columns.number «record».now self j }
+    {
+        let each = self.each();
+        let point = POINTS_AT + HEAD_SIZE + self.first() + POINT_STRIDE * (j / each);
+        run::number_at(record, point + NUMBER_SIZE * (j % each))
+    }
+
+    // Where its numbers begin in a point's payload
+    fn first(self) -> usize
+        ensures { result ≡ Columns.first self }
+    {
+        match self {
+            Column::Points => 0,
+            Column::View1 => 3 * NUMBER_SIZE,
+            Column::View2 => 5 * NUMBER_SIZE,
+            Column::InverseDeviations => 7 * NUMBER_SIZE,
+        }
+    }
+
+    // How many numbers a point has in it
+    fn each(self) -> usize
+        ensures { result ≡ Columns.each self }
+    {
+        match self {
+            Column::Points => 3,
+            Column::View1 | Column::View2 => 2,
+            Column::InverseDeviations => 1,
+        }
+    }
 }
