@@ -3,31 +3,31 @@ use mathlib.Core.Path.{◌≡◌, refl, sym, ap, ◌∙◌, subst}
 use mathlib.Core.Bool.{Bool, true, false, not, ◌&&◌, ◌||◌, cond, and-true}
 use mathlib.Core.List.{List, [], ◌∷◌, ◌++◌}
 use Rattle.std.specs.Prelude.{fold}
+use Rattle.std.proofs.lemmas.Bool.{false_from_ne_true}
+use Rattle.std.proofs.lemmas.Float.{floats_per, le_of_not-lt, le_refl}
 use Rattle.std.proofs.lemmas.List.Sums.{fold-append}
+use borrow.Author.Numbers.{equal_no_nan, above_no_nan}
 use Prim.Native.Nat.{◌*◌}
 use lib.Dec.{T, eqb, eqb→eq}
-use lib.Ieee.{Float, nan, inf, fin, Format, up, down, of_bits, lt, eq, le, fits, is_nan}
+use lib.Ieee.{Float, nan, inf, fin, Format, binary64, up, down, lt, eq, le, fits, is_nan}
 use lib.Ieee.Bits.{is_true, is_false}
 use lib.Ieee.Fits.{and_l, down_pos}
 use Rattle.number.specs.Binary64.{zero}
 use Rattle.number.specs.Parts.{negative, nonneg}
 use Rattle.number.proofs.Values.{same_value}
-use Rattle.number.proofs.Order.{eq_comm, not_lt, le_of_not_lt, le_refl, nonneg_not_nan, nonneg_is, not_negative, nonneg_above}
+use Rattle.number.proofs.Order.{not_lt, nonneg_not_nan, nonneg_is, not_negative, nonneg_above}
+use Rattle.number.proofs.Monotone.{nonneg_zero}
 use Rattle.extrema.specs.Extrema.{max, min, larger, Larger, largest}
-use Rattle.extrema.proofs.Picks.{pick_has, eq_number, lt_numbers}
+use Rattle.extrema.proofs.Picks.{pick_has}
 
 no_lt_nan : (x y : Float) → is_nan y ≡ true → lt x y ≡ false
-no_lt_nan x y h = by (lt x y) (lt_numbers x y)
-  where
-    by : (t : Bool) → (T t → T (not (is_nan x)) × T (not (is_nan y))) → t ≡ false
-    by true k = absurd (rw h at (k tt).1)
-    by false k = refl
+no_lt_nan x y h = false_from_ne_true (lt x y) (λ k. rw h at (above_no_nan y x k))
 
 -- ---- the larger and the smaller of two values
 
 min_le_number : (x y : Float) → T (not (is_nan x)) → T (not (is_nan y)) → T (le (min x y) x)
 unfolding min
-min_le_number x y p q = pick_has _ _ x y (λ z. T (le z x)) q (λ h. le_refl x p) (λ h k. le_refl x p) (λ h. le_of_not_lt y x q p (is_false (lt x y) h))
+min_le_number x y p q = pick_has _ _ x y (λ z. T (le z x)) q (λ h. le_refl x p) (λ h k. le_refl x p) (λ h. le_of_not-lt x y p q h)
 
 -- the second may be a NaN, which is passed over
 pub min_le_left : (x y : Float) → T (not (is_nan x)) → T (le (min x y) x)
@@ -50,7 +50,7 @@ max_select least x h = by (is_nan x) refl
     by : (n : Bool) → is_nan x ≡ n → cond (n || lt x least || (eq least x && not (negative least))) least x ≡ cond (lt least x) x least
     by true e = rw (no_lt_nan least x e)
     by false e =
-        rw (not_negative least h, and-true (eq least x), eq_comm least x)
+        rw (not_negative least h, and-true (eq least x), floats_per.symm least x)
         (ap (λ (t : Bool). cond t least x) (sym (not_lt least x (nonneg_not_nan least h) (rw e tt))) ∙ flip (lt least x))
 
 pub nonneg_max : (x y : Float) → T (nonneg x) → T (nonneg (max x y))
@@ -99,7 +99,7 @@ larger_is f low x p q = record {
 
     tied : T (nonneg low) → T (eq x low) → T (not (negative x)) → larger low x ≡ x
     tied n h s =
-        let e = eq_same f x low q p (subst T (sym (nonneg_is x (eq_number x low (is_true (eq x low) h)))) s) n h in
+        let e = eq_same f x low q p (subst T (sym (nonneg_is x (equal_no_nan x low (is_true (eq x low) h)))) s) n h in
         by (lt low x) e
       where
         by : (b : Bool) → x ≡ low → cond b x low ≡ x
@@ -117,7 +117,7 @@ abbrev pub Found : List Float → Float → Type 0
 Found xs low = T (nonneg low) × (low ≡ largest xs)
 
 pub found_none : Found [] zero
-found_none = (unfold nonneg of_bits in tt, refl)
+found_none = (nonneg_zero binary64, refl)
 
 pub found_more : (xs : List Float) (low x r : Float) → Found xs low → Larger low x r → Found (xs ++ (x ∷ [])) r
 found_more xs low x r h l =

@@ -1,8 +1,8 @@
 -- The larger and the smaller of two values, case by case: each law once for both. Assumes nothing.
 use mathlib.Core.Path.{◌≡◌, refl}
-use mathlib.Core.Bool.{Bool, true, false, not, false≢true, ◌&&◌, ◌||◌, cond}
+use mathlib.Core.Bool.{Bool, true, false, not, ◌&&◌, ◌||◌, cond}
 use lib.Dec.{T}
-use lib.Ieee.{Float, nan, inf, fin, lt, eq, is_nan}
+use lib.Ieee.{Float, nan, inf, fin, eq, is_nan}
 use Rattle.std.specs.Float.{is_sign_negative}
 use Rattle.number.specs.Parts.{negative}
 
@@ -29,21 +29,3 @@ module _ (ahead sign : Bool) (x y : Float) where
       by false false true true q h k l = k tt tt
       by false false true false q h k l = l tt
       by false false false s q h k l = l tt
-
--- ---- what is below a value, above it or equal to it is a number
-
-pub eq_number : (x y : Float) → eq x y ≡ true → T (not (is_nan x))
-unfolding eq is_nan
-eq_number nan y h = false≢true h
-eq_number (inf s) y h = tt
-eq_number (fin s m e) y h = tt
-
-pub lt_numbers : (x y : Float) → T (lt x y) → T (not (is_nan x)) × T (not (is_nan y))
-unfolding lt is_nan
-lt_numbers nan y h = absurd h
-lt_numbers (inf s) nan h = absurd h
-lt_numbers (inf s) (inf t) h = (tt, tt)
-lt_numbers (inf s) (fin t n d) h = (tt, tt)
-lt_numbers (fin s m e) nan h = absurd h
-lt_numbers (fin s m e) (inf t) h = (tt, tt)
-lt_numbers (fin s m e) (fin t n d) h = (tt, tt)

@@ -1,6 +1,6 @@
 -- The cost and the squared residual of every made block, and of the block that is +0 everywhere, are numbers not below zero. Assumes nothing.
-use mathlib.Core.Path.{◌≡◌, refl, sym, subst}
-use mathlib.Core.Bool.{Bool, true, false, not, ◌&&◌, cond, not-not}
+use mathlib.Core.Path.{◌≡◌, refl}
+use mathlib.Core.Bool.{Bool, true, false, not, ◌&&◌, cond}
 use mathlib.Core.List.{List}
 use lib.Dec.{T}
 use lib.Ieee.{Float, binary64, lt, le}
@@ -8,7 +8,8 @@ use lib.Ieee.Fits.{and_l, and_r}
 use Rattle.number.specs.Binary64.{◌⊕◌, ◌⊗◌, zero}
 use Rattle.number.specs.Parts.{is_finite, nonneg}
 use Rattle.number.specs.Vectors.{◌!◌}
-use Rattle.number.proofs.Order.{not_lt, nonneg_add, nonneg_not_nan, nonneg_square}
+use Rattle.std.proofs.lemmas.Float.{lt_of_not-le}
+use Rattle.number.proofs.Order.{nonneg_add, nonneg_not_nan, nonneg_square}
 use Rattle.number.proofs.Monotone.{nonneg_zero, finite_not_nan, nonneg_mul_weight, nonneg_half_square}
 use Rattle.root.proofs.Signs.{nonneg_sum_squares}
 use Rattle.std.specs.Prelude.{Result, Ok, Err}
@@ -39,9 +40,7 @@ deviation_finite w h = and_l (is_finite w) (not (le w zero)) h
 deviation_above : (w : Float) → T (good_deviation w) → T (lt zero w)
 unfolding good_deviation
 deviation_above w h =
-    subst T (not-not (lt zero w))
-    (subst (λ (b : Bool). T (not b)) (sym (not_lt zero w (nonneg_not_nan zero (nonneg_zero binary64)) (finite_not_nan w (deviation_finite w h))))
-    (and_r (is_finite w) (not (le w zero)) h))
+    lt_of_not-le w zero (finite_not_nan w (deviation_finite w h)) (nonneg_not_nan zero (nonneg_zero binary64)) (and_r (is_finite w) (not (le w zero)) h)
 
 first_two : (a b c d e f g h : Bool) → T (a && b && c && d && e && f && g && h) → T a × T b
 first_two true true c d e f g h t = (tt, tt)

@@ -1,98 +1,21 @@
--- The order is transitive, a sum of values clear of the sign never falls, and some products stay clear of the sign. Assumes nothing.
-use mathlib.Core.Path.{◌≡◌, refl, sym, ap₂, ◌∙◌, subst}
+-- A sum of values clear of the sign never falls, and some products stay clear of the sign. Assumes nothing.
+use mathlib.Core.Path.{◌≡◌, refl, sym, ◌∙◌, subst}
 use mathlib.Core.Bool.{Bool, true, false, not, cond}
-use Prim.Native.Nat.{ℕ, zero, suc, ◌+◌, ◌-◌, ◌*◌, ◌≤◌, ◌<◌}
-use native.Mathlib.Nat.{le_trans as le-trans·, le_of_eq, le-add_right, zero-add, sub-zero, zero-mul, mul-zero, one-mul, mul-one, add-mul, mul_assoc, mul_comm, mul_right_comm, mul-le-mul_right, le_of_mul-le-mul_right, mul-pos}
+use Prim.Native.Nat.{ℕ, zero, suc, ◌+◌, ◌-◌, ◌*◌, ◌≤◌}
+use native.Mathlib.Nat.{le_trans as le-trans·, le_of_eq, le-add_right, zero-add, sub-zero, zero-mul, mul-zero, one-mul, mul-one, mul_assoc, mul_comm, mul_right_comm, mul-le-mul_right, mul-pos}
 use native.Mathlib.Omega.{arith}
 use borrow.Author.Tests.{le-ltb, ltb-false}
 use lib.IntN.{ℤ, pos, negsuc}
-use lib.Dec.{T, ltb, eqb-suc-zero, ltb→lt, nltb→le}
-use lib.Ieee.{Float, nan, inf, fin, Format, binary32, binary64, up, down, below, round, neg, add, mul, of_bits, lt, le, fits, is_nan}
+use lib.Dec.{T, ltb, eqb-suc-zero, ltb→lt}
+use lib.Ieee.{Float, nan, inf, fin, Format, binary32, binary64, up, down, round, neg, add, mul, of_bits, lt, le, fits, is_nan}
 use lib.Ieee.Fits.{down_pos}
 use lib.Ieee.Order.{round_mono}
+pub use Rattle.std.proofs.lemmas.Float.{le_trans}
+use Rattle.std.proofs.lemmas.Float.{le_of_not-lt}
 use Rattle.number.specs.Binary64.{◌⊕◌, ◌⊗◌, half, neg_zero}
 use Rattle.number.specs.Parts.{is_finite, nonneg}
 use Rattle.number.proofs.Values.{round_value, round_zero}
-use Rattle.number.proofs.Order.{not_lt, nonneg_above, nonneg_mul_positive}
-
--- ---- the order is transitive, with nothing asked: `le` is false where a NaN stands
-
--- ±a is a difference, a less 0 or 0 less a. This is what stands first, and with the sign turned what is taken away.
-abbrev part : Bool → ℕ → ℕ
-part true a = 0
-part false a = a
-
--- ±a ≤ ±b, with what is taken away moved to the other side
-abbrev AtMost : Bool → ℕ → Bool → ℕ → Type 0
-AtMost s a t b = part s a + part (not t) b ≤ part t b + part (not s) a
-
-at_most : (s t : Bool) (a b : ℕ) → T (not (below t b s a)) → AtMost s a t b
-at_most true true a b h = let k = nltb→le a b h in omega arith
-at_most true false a b h = omega arith
-at_most false true a b h = let k = nltb→le 0 (b + a) h in omega arith
-at_most false false a b h = let k = nltb→le b a h in omega arith
-
-not_below : (s t : Bool) (a b : ℕ) → AtMost s a t b → T (not (below t b s a))
-not_below true true a b h = rw (le-ltb a b (omega arith)) tt
-not_below true false a b h = tt
-not_below false true a b h = rw (le-ltb 0 (b + a) (omega arith)) tt
-not_below false false a b h = rw (le-ltb b a (omega arith)) tt
-
--- both may be multiplied by a k above 0
-times : (s : Bool) (a k : ℕ) → part s (a * k) ≡ part s a * k
-times true a k = sym (zero-mul k)
-times false a k = refl
-
-both_times : (s t : Bool) (a b k : ℕ) → part s (a * k) + part t (b * k) ≡ (part s a + part t b) * k
-both_times s t a b k = ap₂ ◌+◌ (times s a k) (times t b k) ∙ sym (add-mul (part s a) (part t b) k)
-
-widen : (s t : Bool) (a b k : ℕ) → AtMost s a t b → AtMost s (a * k) t (b * k)
-widen s t a b k h = rw (both_times s (not t) a b k, both_times t (not s) b a k) (mul-le-mul_right k h)
-
-narrow : (s t : Bool) (a b k : ℕ) → 0 < k → AtMost s (a * k) t (b * k) → AtMost s a t b
-narrow s t a b k K h = le_of_mul-le-mul_right (rw (both_times s (not t) a b k, both_times t (not s) b a k) at h) K
-
--- three fractions: ±a / x ≤ ±b / y ≤ ±c / z
-chain : (s t u : Bool) (a b c x y z : ℕ) → 0 < y → AtMost s (a * y) t (b * x) → AtMost t (b * z) u (c * y) → AtMost s (a * z) u (c * x)
-chain s t u a b c x y z Y h k = narrow s u (a * z) (c * x) y Y (rw (mul_right_comm a z y, mul_right_comm c x y) (omega (arith, l, m)))
-  where
-    l : AtMost s (a * y * z) t (b * x * z)
-    l = widen s t (a * y) (b * x) z h
-
-    m : AtMost t (b * x * z) u (c * y * x)
-    m = rw (mul_right_comm b x z) (widen t u (b * z) (c * y) x k)
-
-no_le_nan : (x : Float) → T (le x nan) → ⊥
-unfolding le
-no_le_nan nan h = h
-no_le_nan (inf s) h = h
-no_le_nan (fin s m e) h = h
-
-pub le_trans : (x y z : Float) → T (le x y) → T (le y z) → T (le x z)
-unfolding le is_nan
-le_trans nan y z h k = absurd h
-le_trans (inf true) y nan h k = absurd (no_le_nan y k)
-le_trans (inf true) y (inf true) h k = tt
-le_trans (inf true) y (inf false) h k = tt
-le_trans (inf true) y (fin u p g) h k = tt
-le_trans (inf false) nan z h k = absurd h
-le_trans (inf false) (inf true) z h k = absurd h
-le_trans (inf false) (inf false) z h k = k
-le_trans (inf false) (fin t n d) z h k = absurd h
-le_trans (fin s m e) nan z h k = absurd h
-le_trans (fin s m e) (inf true) z h k = absurd h
-le_trans (fin s m e) (inf false) nan h k = absurd k
-le_trans (fin s m e) (inf false) (inf true) h k = absurd k
-le_trans (fin s m e) (inf false) (inf false) h k = tt
-le_trans (fin s m e) (inf false) (fin u p g) h k = absurd k
-le_trans (fin s m e) (fin t n d) nan h k = absurd k
-le_trans (fin s m e) (fin t n d) (inf true) h k = absurd k
-le_trans (fin s m e) (fin t n d) (inf false) h k = tt
-le_trans (fin s m e) (fin t n d) (fin u p g) h k =
-    let a = subst T (sym (not_lt (fin t n d) (fin s m e) tt tt)) h in
-    let b = subst T (sym (not_lt (fin u p g) (fin t n d) tt tt)) k in
-    subst T (not_lt (fin u p g) (fin s m e) tt tt)
-    (not_below s u _ _ (chain s t u (m * up e) (n * up d) (p * up g) (down e) (down d) (down g) (down_pos d) (at_most s t _ _ a) (at_most t u _ _ b)))
+use Rattle.number.proofs.Order.{nonneg_above, nonneg_mul_positive}
 
 -- +0 is at most any value clear of the sign
 zero_first : (e : ℤ) (x : Float) → T (nonneg x) → T (le (fin false 0 e) x)
@@ -102,8 +25,7 @@ zero_first e (inf true) h = absurd h
 zero_first e (inf false) h = tt
 zero_first e (fin true n d) h = absurd h
 zero_first e (fin false n d) h =
-    subst T (not_lt (fin false n d) (fin false 0 e) tt tt)
-    (not_below false false (0 * up e * down d) (n * up d * down e) (rw (zero-mul (up e), zero-mul (down d)) (omega arith)))
+    le_of_not-lt (fin false n d) (fin false 0 e) tt tt (rw (zero-mul (up e), zero-mul (down d), le-ltb (n * up d * down e) 0 (omega arith)) tt)
 
 pub zero-le : (x : Float) → T (nonneg x) → T (le (of_bits binary64 0) x)
 unfolding of_bits
