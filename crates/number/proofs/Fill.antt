@@ -1,22 +1,28 @@
 -- A list that is filled from the front, entry by entry, with what a function gives. Assumes nothing.
 use mathlib.Core.Path.{◌≡◌, refl, sym, ap, subst, ◌∙◌}
-use mathlib.Core.List.{List, [], ◌∷◌, ◌++◌, append-nil}
+use mathlib.Core.List.{List, ◌++◌, map, append-nil}
 use Prim.Native.Nat.{ℕ, zero, suc, ◌+◌, ◌*◌, ◌/◌, ◌%◌, ◌<◌}
+use native.Mathlib.Nat.{add-zero, zero-add, add-suc, suc-add}
 use native.Mathlib.Numerals.{add-one}
 use native.Mathlib.Omega.{arith}
 use lib.ListN.{length, drop, set}
 use lib.Seq.{drop-cons, set_at, append_snoc, drop-length}
 use lib.Ieee.{Float, nan}
+use Rattle.std.specs.List.{range_with_len}
+use Rattle.std.proofs.lemmas.List.FromFn.{length-map-range_with_len, map-range_with_len_more}
 use Rattle.number.specs.Binary64 as Binary64
 use Rattle.number.specs.Vectors.{◌!◌, tabulate}
 
-pub length_tabulate : (n : ℕ) (f : ℕ → Float) → length (tabulate n f) ≡ n
-length_tabulate zero f = refl
-length_tabulate (suc n) f = ap suc (length_tabulate n (λ i. f (suc i)))
+-- `tabulate` in std's words: the map of f over the indexes
+from_index : (a n : ℕ) (f : ℕ → Float) → tabulate n (λ i. f (a + i)) ≡ map f (range_with_len a n)
+from_index a zero f = refl
+from_index a (suc n) f = rw (add-zero a, ← from_index (a + 1) n f) (simp (add-suc, add-one, suc-add))
 
-tabulate_snoc : (n : ℕ) (f : ℕ → Float) → tabulate (suc n) f ≡ tabulate n f ++ (f n ∷ [])
-tabulate_snoc zero f = refl
-tabulate_snoc (suc n) f = ap (λ (t : List Float). f 0 ∷ t) (tabulate_snoc n (λ i. f (suc i)))
+pub tabulate_maps : (n : ℕ) (f : ℕ → Float) → tabulate n f ≡ map f (range_with_len 0 n)
+tabulate_maps n f = rw (← from_index 0 n f) (simp zero-add)
+
+pub length_tabulate : (n : ℕ) (f : ℕ → Float) → length (tabulate n f) ≡ n
+length_tabulate n f = rw tabulate_maps (length-map-range_with_len f 0 n)
 
 -- k entries are filled, and the rest is l's
 abbrev pub filled : List Float → (ℕ → Float) → ℕ → List Float
@@ -28,7 +34,7 @@ fill_next l h f k v e g i =
     ∙ ap (λ (x : Float). set (filled l f k) k x) g
     ∙ ap (λ (t : List Float). set (tabulate k f ++ t) k (f k)) (drop-cons l k nan i)
     ∙ set_at (tabulate k f) (l ! k) (drop (suc k) l) (f k) k (length_tabulate k f)
-    ∙ sym (ap (λ (n : ℕ). filled l f n) (add-one k) ∙ ap (λ (t : List Float). t ++ drop (suc k) l) (tabulate_snoc k f) ∙ append_snoc (tabulate k f) (f k) (drop (suc k) l))
+    ∙ sym (rw (tabulate_maps (k + 1) f, map-range_with_len_more f 0 k k (zero-add k), ← tabulate_maps k f, add-one k) (append_snoc (tabulate k f) (f k) (drop (suc k) l)))
 
 pub fill_all : (l h : List Float) (f : ℕ → Float) (k n : ℕ) → h ≡ filled l f k → k ≡ n → length l ≡ n → h ≡ tabulate n f
 fill_all l h f k n e g i =

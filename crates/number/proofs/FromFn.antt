@@ -1,13 +1,13 @@
 -- An array that `from_fn` makes, by what its closure gives at each index. Assumes nothing.
-use Rattle.std.proofs.Common.{◌≡◌, ℕ, zero, suc, ◌+◌, ◌≤◌, ◌<◌, List, [], ◌∷◌, length, get_or, map, refl, sym, ap, subst, ◌∙◌, add-zero, zero-add, arith}
-use mathlib.Core.Path.{ap₂}
+use Rattle.std.proofs.Common.{◌≡◌, ℕ, zero, suc, ◌+◌, ◌≤◌, ◌<◌, List, get_or, map, refl, sym, ap, subst, ◌∙◌, add-zero, zero-add, arith}
 use denote.Param.Members.{Mut}
-use lib.Ieee.{Float, nan}
+use lib.Ieee.{Float}
 use Rattle.std.specs.Array.{IsFromFnResult, IsFromFnResultFrom}
 use Rattle.std.specs.Fn.{Called}
 use Rattle.std.specs.List.{range_with_len}
 use Rattle.std.proofs.lemmas.List.FromFn.{fill_by_all}
-use Rattle.number.specs.Vectors.{◌!◌, tabulate}
+use Rattle.number.specs.Vectors.{tabulate}
+use Rattle.number.proofs.Fill.{tabulate_maps}
 
 -- What is kept of the closure holds again after each call, which gives f of the index.
 module _ {F A : Type 0} {g : Mut F (ℕ × Unit {0}) A} (Kept : F → Type 0) (f : ℕ → A) (n : ℕ)
@@ -27,13 +27,6 @@ module _ {F A : Type 0} {g : Mut F (ℕ × Unit {0}) A} (Kept : F → Type 0) (f
     pub from_fn_maps_kept : l ≡ map f (range_with_len 0 n)
     from_fn_maps_kept = fill_by_all f l n d r.long entry_of
 
-tabulated : (n : ℕ) (l : List Float) (f : ℕ → Float) → length l ≡ n → ((i : ℕ) → i < n → l ! i ≡ f i) → l ≡ tabulate n f
-tabulated zero [] f e h = refl
-tabulated zero (x ∷ l) f e h = absurd (omega arith)
-tabulated (suc n) [] f e h = absurd (omega arith)
-tabulated (suc n) (x ∷ l) f e h =
-    ap₂ (λ (a : Float) (t : List Float). a ∷ t) (h 0 (omega arith)) (tabulated n l (λ i. f (suc i)) (omega arith) (λ i k. h (suc i) (omega arith)))
-
 -- The closure stays as it was at each call.
 module _ {F A : Type 0} {g : Mut F (ℕ × Unit {0}) A} {s : F} (l : List A) (f : ℕ → A)
     (gives : (i : ℕ) (x : A) (q : F) → Called g s (i, tt) x q → (q ≡ s) × (x ≡ f i)) where
@@ -45,5 +38,4 @@ module _ {F A : Type 0} {g : Mut F (ℕ × Unit {0}) A} {s : F} (l : List A) (f 
 
 pub from_fn_tabulates : {F : Type 0} {g : Mut F (ℕ × Unit {0}) Float} {s : F} (l : List Float) (f : ℕ → Float)
     → ((i : ℕ) (x : Float) (q : F) → Called g s (i, tt) x q → (q ≡ s) × (x ≡ f i)) → (n : ℕ) → IsFromFnResult g s l n → l ≡ tabulate n f
-from_fn_tabulates {s = s} l f gives n r =
-    tabulated n l f r.long (entry_of (λ t. t ≡ s) f n (same l f gives n) l nan s refl r)
+from_fn_tabulates l f gives n r = from_fn_maps l f gives n r ∙ sym (tabulate_maps n f)
