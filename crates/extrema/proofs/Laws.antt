@@ -12,10 +12,10 @@ use lib.Dec.{T, eqb, eqb→eq}
 use lib.Ieee.{Float, nan, inf, fin, Format, binary64, up, down, lt, eq, le, fits, is_nan}
 use lib.Ieee.Bits.{is_true, is_false}
 use lib.Ieee.Fits.{and_l, down_pos}
-use Rattle.number.specs.Binary64.{zero}
+use Rattle.number.specs.Binary64.{◌⊗◌, zero, epsilon64}
 use Rattle.number.specs.Parts.{negative, nonneg}
 use Rattle.number.proofs.Values.{same_value}
-use Rattle.number.proofs.Order.{not_lt, nonneg_not_nan, nonneg_is, not_negative, nonneg_above}
+use Rattle.number.proofs.Order.{not_lt, nonneg_not_nan, nonneg_is, not_negative, nonneg_above, nonneg_floor}
 use Rattle.number.proofs.Monotone.{nonneg_zero}
 use Rattle.extrema.specs.Extrema.{max, min, larger, Larger, largest}
 use Rattle.extrema.proofs.Picks.{pick_has}
@@ -111,6 +111,10 @@ larger_is f low x p q = record {
 pub nonneg_largest : (low : Float) (xs : List Float) → T (nonneg low) → T (nonneg (fold max low xs))
 nonneg_largest low [] n = n
 nonneg_largest low (x ∷ xs) n = nonneg_largest (max low x) xs (nonneg_max low x n)
+
+-- the floor of a scale, 64ε of the largest, is clear of the sign
+pub floor_clear : (xs : List Float) (s : Float) → s ≡ largest xs → T (nonneg (epsilon64 ⊗ s))
+floor_clear xs s e = rw e (nonneg_floor (largest xs) (nonneg_largest zero xs (nonneg_zero binary64)))
 
 -- One comparison each finds it: what was found of xs is clear of the sign, and so is what is found of one more.
 abbrev pub Found : List Float → Float → Type 0

@@ -65,7 +65,6 @@ fn largest_diagonal(m: [f64; 9]) -> f64
 }
 
 // The floored diagonal, from the largest entry, which is `scale`.
-#[tactic(auto, using(crate::proofs::Laws::floor_clear), unfolding(crate::specs::Damping::floored))]
 fn floored(m: [f64; 9], scale: f64) -> [f64; 3]
     requires { scale ≡ Damping.largest_diagonal m }
     ensures { result ≡ Damping.floored m }
