@@ -14,7 +14,6 @@ pub fn entry(values: &[f64], i: usize) -> f64
 }
 
 // Whether every entry is finite
-#[tactic(auto, using(crate::proofs::Finite::all_is_finite))]
 pub fn all_finite(values: &[f64]) -> bool
     ensures { result ≡ Vectors.all_finite values.now }
 {

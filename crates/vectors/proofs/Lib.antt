@@ -1,2 +1,0 @@
--- Laws of lists of finite numbers.
-mod Finite
