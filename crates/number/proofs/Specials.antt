@@ -1,11 +1,14 @@
--- The bit patterns of a NaN. Assumes nothing.
+-- Bit patterns: a NaN's, and the sign's bit. Assumes nothing.
 use mathlib.Core.Path.{◌≡◌, refl, sym, ◌∙◌}
-use mathlib.Core.Bool.{true, not, false≢true}
-use Prim.Native.Nat.{ℕ, ◌*◌, ◌%◌, ◌≤◌, ◌<◌}
-use borrow.Author.Tests.{lt-ltb, le-ltb}
-use lib.Dec.{T}
-use lib.Ieee.{Float, nan, inf, fin, Format, binary64, is_nan, hid, ones, top, of_bits, nan_bits, to_bits}
-use lib.Ieee.Bits.{nan_bits_is, nan_bits_above}
+use mathlib.Core.Bool.{true, false, not, false≢true}
+use Prim.Native.Nat.{ℕ, ◌*◌, ◌%◌, ◌<◌}
+use native.Mathlib.Omega.{arith}
+use borrow.Author.Tests.{lt-ltb, le-leb, lt-leb}
+use lib.Dec.{T, leb}
+use lib.Ieee.{Float, nan, inf, fin, Format, binary64, neg, fits, is_nan, hid, ones, top, of_bits, to_bits}
+use lib.Ieee.Bits.{nan_bits_is, nan_bits_above, to_bits-lt}
+use lib.Ieee.Fits.{inf-fits, neg-fits}
+use Rattle.number.specs.Parts.{negative}
 
 -- the NaN by its pattern, and its pattern
 pub nan_of_pattern : of_bits binary64 0x7ff8_0000_0000_0000 ≡ nan
@@ -26,5 +29,12 @@ nan_of_is_nan (fin s m e) h = absurd (false≢true h)
 pub nan_of_bits : (f : Format) (b : ℕ) → ones f * hid f < b % top f → of_bits f b ≡ nan
 nan_of_bits f b h = nan_of_is_nan (of_bits f b) (sym (nan_bits_is f b) ∙ nan_bits_above f b ∙ lt-ltb (ones f * hid f) (b % top f) h)
 
-pub no_nan_bits : (f : Format) (b : ℕ) → b % top f ≤ ones f * hid f → T (not (nan_bits f b))
-no_nan_bits f b h = rw (nan_bits_above f b, le-ltb (ones f * hid f) (b % top f) h) tt
+-- ---- the sign's bit
+
+pub sign_bit : (f : Format) (x : Float) → T (fits f x) → T (not (is_nan x)) → negative x ≡ leb (top f) (to_bits f x)
+unfolding is_nan negative neg to_bits
+sign_bit f nan p h = absurd h
+sign_bit f (inf true) p h = sym (le-leb (top f) (to_bits f (inf true)) (omega arith))
+sign_bit f (inf false) p h = let k = to_bits-lt f (inf true) (inf-fits f true) in sym (lt-leb (top f) (to_bits f (inf false)) (omega arith))
+sign_bit f (fin true m e) p h = sym (le-leb (top f) (to_bits f (fin true m e)) (omega arith))
+sign_bit f (fin false m e) p h = let k = to_bits-lt f (fin true m e) (neg-fits f (fin false m e) p) in sym (lt-leb (top f) (to_bits f (fin false m e)) (omega arith))

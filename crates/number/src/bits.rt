@@ -15,7 +15,7 @@ pub fn to_bits(x: f64) -> u64
 }
 
 // The value of a pattern. Every pattern of a NaN gives the NaN.
-#[tactic(auto, using(crate::proofs::Specials::nan_of_pattern, crate::proofs::Specials::nan_of_bits, crate::proofs::Specials::no_nan_bits))]
+#[tactic(auto, using(crate::proofs::Specials::nan_of_pattern, crate::proofs::Specials::nan_of_bits, std::proofs::lemmas::Float::not_nan_f64_bits))]
 pub fn from_bits(b: u64) -> f64
     ensures { result ≡ Ieee.of_bits binary64 b }
 {
