@@ -12,18 +12,13 @@ use lib.Ieee.Fits.{up_pos}
 use Rattle.number.specs.Binary64 as Binary64
 use Rattle.number.specs.Parts.{is_finite}
 use Rattle.number.proofs.Specials.{nan_of_pattern}
+use Rattle.number.proofs.Monotone.{finite_not_nan}
 use Rattle.root.specs.Root.{sqrt, CorrectlyRounded}
 use Rattle.root.proofs.Patterns.{plain_finite}
 use Rattle.root.proofs.Correct.{sqrt_correct}
 use Rattle.root.proofs.sqrt.Goals as goal
 
 -- ---- above zero
-number : (x : Float) → lt Binary64.zero x ≡ true → T (not (is_nan x))
-unfolding lt of_bits is_nan
-number nan l = absurd (false≢true l)
-number (inf s) l = tt
-number (fin s m e) l = tt
-
 some_bits : (x : Float) → T (fits binary64 x) → lt Binary64.zero x ≡ true → 0 < to_bits binary64 x
 unfolding lt of_bits
 some_bits x f l = go (to_bits binary64 x) (of_bits-to_bits binary64 x f)
@@ -35,12 +30,6 @@ some_bits x f l = go (to_bits binary64 x) (of_bits-to_bits binary64 x f)
     go zero e = absurd (false≢true (sym none ∙ ap (lt Binary64.zero) e ∙ l))
     go (suc b) e = zero-lt-suc b
 
-finite_number : (x : Float) → T (is_finite x) → is_nan x ≡ false
-unfolding is_finite is_nan
-finite_number nan f = absurd f
-finite_number (inf s) f = absurd f
-finite_number (fin s m e) f = refl
-
 -- the root of a finite one is IEEE 754's, and so it has a pattern that is read back
 correct : (x : Float) → T (fits binary64 x) → lt Binary64.zero x ≡ true → to_bits binary64 x < 0x7ff0_0000_0000_0000 → CorrectlyRounded x (sqrt x)
 correct x f l h = sqrt_correct x f (subst (λ (y : Float). T (is_finite y)) (of_bits-to_bits binary64 x f) (plain_finite (to_bits binary64 x) h)) (subst T (sym l) tt)
@@ -48,8 +37,8 @@ correct x f l h = sqrt_correct x f (subst (λ (y : Float). T (is_finite y)) (of_
 no_nan_bits : (x : Float) → CorrectlyRounded x (sqrt x) → T (not (nan_bits binary64 (to_bits binary64 (sqrt x))))
 no_nan_bits x c =
     subst (λ (b : Bool). T (not b))
-    (sym (nan_bits_is binary64 (to_bits binary64 (sqrt x)) ∙ ap is_nan (of_bits-to_bits binary64 (sqrt x) c.held) ∙ finite_number (sqrt x) c.finite))
-    tt
+    (sym (nan_bits_is binary64 (to_bits binary64 (sqrt x)) ∙ ap is_nan (of_bits-to_bits binary64 (sqrt x) c.held)))
+    (finite_not_nan (sqrt x) c.finite)
 
 -- ---- a pattern from +∞'s on is +∞'s, a NaN's or a negative value's
 odd_below : (q x : ℕ) → lt Binary64.zero (odd 53 true q x 1074) ≡ false
@@ -135,9 +124,6 @@ module _ (x : Float) (f : T (fits binary64 x)) (above : lt Binary64.zero x ≡ t
 
   root : (r : ℕ) → r ≡ to_bits binary64 (sqrt (of_bits binary64 (to_bits binary64 x))) → of_bits binary64 r ≡ sqrt x
   root r e = ap (of_bits binary64) (bits r e) ∙ of_bits-to_bits binary64 (sqrt x) rounded.held
-
-pub float_to_bits-b : goal.float_to_bits-b
-float_to_bits-b c = number c.args.x c.if-x.true
 
 pub root_of_pattern-requires : goal.root_of_pattern-requires
 root_of_pattern-requires c = (some_bits c.args.x (held _ c.well_formed.0.1) c.if-x.true, c.if-b-lt-INFINITY.true)
