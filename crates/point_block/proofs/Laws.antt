@@ -2,12 +2,13 @@
 use Rattle.std.proofs.Common.{◌≡◌, refl, Bool, true, false, cond, List}
 use Rattle.std.specs.Prelude.{is_ok, Result, Ok, Err}
 use lib.Dec.{T}
-use lib.Ieee.{Float, lt, of_bits}
+use lib.Ieee.{Float, binary64, lt}
 use lib.Ieee.Bits.{is_true}
 use lib.Ieee.Fits.{and_l, and_r}
 use Rattle.number.specs.Binary64.{◌⊗◌, zero, recip}
 use Rattle.number.specs.Parts.{is_finite, nonneg, positive_finite}
 use Rattle.number.proofs.Order.{nonneg_above, nonneg_recip}
+use Rattle.number.proofs.Monotone.{nonneg_zero}
 use Rattle.refusal.specs.declared.Refusal.{Refusal}
 use Rattle.point_damping.specs.Damping.{good_damping}
 use Rattle.point_block.specs.declared.PointBlockFactor.{PointBlockFactor}
@@ -37,5 +38,5 @@ rcond_nonneg i m = by (infinity_norm m ⊗ infinity_norm (inverse_matrix i))
         go true k =
             let A = is_finite d in
             let B = lt zero d in
-            nonneg_recip d (and_l A B (k tt)) (nonneg_above zero d (unfold nonneg of_bits in tt) (and_r A B (k tt)))
-        go false k = unfold nonneg of_bits in tt
+            nonneg_recip d (and_l A B (k tt)) (nonneg_above zero d (nonneg_zero binary64) (and_r A B (k tt)))
+        go false k = nonneg_zero binary64
