@@ -8,8 +8,10 @@ use native.Mathlib.Omega.{arith}
 use borrow.Author.Tests.{lt-ltb}
 use lib.Dec.{T}
 use lib.ListN.{length}
-use lib.Ieee.{Float, nan, inf, fin, le, is_nan}
-use lib.Ieee.Bits.{is_true}
+use lib.Ieee.{Float, is_nan}
+use lib.Ieee.Bits.{is_true, is_false}
+use Rattle.std.proofs.lemmas.Bool.{and_parts}
+use Rattle.std.proofs.lemmas.Float.{le_left}
 use Rattle.number.specs.Vectors.{all_finite}
 use Rattle.point_damping.specs.Damping.{good_damping}
 use Rattle.pose_damping.specs.PoseDamping.{damped_hessian}
@@ -22,7 +24,6 @@ use Rattle.linearization.specs.declared.linearize.LocalLinearization.{LocalLinea
 use Rattle.reduced_system.specs.declared.ReducedSystem.{ReducedSystem}
 use Rattle.list_of_adds.proofs.Claim.{claim}
 use Rattle.correspondences.specs.Problem.{Problem, count, correspondence_at}
-use Rattle.checks.proofs.Passed.{both_hold}
 use Rattle.assembly.specs.Assembly.{block_of, block_at, system_to, reduced_system}
 
 -- ---- the problem's blocks as calls of `add`, from an index on
@@ -53,16 +54,16 @@ all_taken p m i (suc n) h =
 -- what holds of every block holds of each
 each : (p : Problem) (good : LocalLinearization → Bool) (i n j : ℕ) → all good (blocks p i n) ≡ true → j < n → good (block_at p (i + j)) ≡ true
 each p good i zero j e h = absurd (omega arith)
-each p good i (suc n) zero e h = ap (λ (k : ℕ). good (block_at p k)) (add-zero i) ∙ (both_hold (good (block_at p i)) (all good (blocks p (suc i) n)) e).0
+each p good i (suc n) zero e h = ap (λ (k : ℕ). good (block_at p k)) (add-zero i) ∙ (and_parts (good (block_at p i)) (all good (blocks p (suc i) n)) e).0
 each p good i (suc n) (suc j) e h =
     ap (λ (k : ℕ). good (block_at p k)) (add-suc i j ∙ sym (suc-add i j))
-    ∙ each p good (suc i) n j (both_hold (good (block_at p i)) (all good (blocks p (suc i) n)) e).1 (omega arith)
+    ∙ each p good (suc i) n j (and_parts (good (block_at p i)) (all good (blocks p (suc i) n)) e).1 (omega arith)
 
 -- ---- a valid system, and blocks that factor
 
 valid_flag : (s : ReducedSystem) → is_valid s ≡ true → s.valid ≡ true
 unfolding is_valid
-valid_flag s e = (both_hold s.valid (all_finite s.gradient) (both_hold (s.valid && all_finite s.gradient) (all_finite s.hessian) e).0).0
+valid_flag s e = (and_parts s.valid (all_finite s.gradient) (and_parts (s.valid && all_finite s.gradient) (all_finite s.hessian) e).0).0
 
 -- the pose damping changes the Hessian alone
 damped : (s : ReducedSystem) (d : Float) → T (good_damping d) → handed_back s (finish_damping s d) ≡ with_hessian s (damped_hessian s.hessian s.pose_diagonal d)
@@ -130,18 +131,12 @@ module _ (p : Problem) (good : T (good_damping p.damping)) (h : count p ≤ max_
 
 -- ---- cost and squared residual are numbers, since the order of IEEE 754 holds of them
 
-number : (x y : Float) → T (le x y) → is_nan x ≡ false
-unfolding le is_nan
-number nan y h = absurd h
-number (inf s) y h = refl
-number (fin s m e) y h = refl
-
 pub costs_are_numbers : (p : Problem) → T (good_damping p.damping) → (is_nan (reduced_system p).cost ≡ false) × (is_nan (reduced_system p).squared_residual ≡ false)
 unfolding reduced_system system_to with_hessian
 costs_are_numbers p good =
     let f = (claim p.damping good (calls p 0 (count p))).further [] in
     let e = after_calls p 0 (count p) ∙ ap (λ (k : ℕ). system_to p k) (zero-add (count p)) in
     let s = damped (system_to p (count p)) p.damping good in (
-      ap (λ (t : ReducedSystem). is_nan t.cost) s ∙ ap (λ (t : ReducedSystem). is_nan t.cost) (sym e) ∙ number _ _ f.cost,
-      ap (λ (t : ReducedSystem). is_nan t.squared_residual) s ∙ ap (λ (t : ReducedSystem). is_nan t.squared_residual) (sym e) ∙ number _ _ f.squared,
+      ap (λ (t : ReducedSystem). is_nan t.cost) s ∙ ap (λ (t : ReducedSystem). is_nan t.cost) (sym e) ∙ is_false _ (le_left _ _ f.cost),
+      ap (λ (t : ReducedSystem). is_nan t.squared_residual) s ∙ ap (λ (t : ReducedSystem). is_nan t.squared_residual) (sym e) ∙ is_false _ (le_left _ _ f.squared),
     )

@@ -1,24 +1,23 @@
 -- Lengths that belong to a count, and checks item by item. Assumes nothing.
 use mathlib.Core.Path.{◌≡◌, refl, sym, ap, ◌∙◌}
 use mathlib.Core.Bool.{Bool, true, false, ◌&&◌}
-use mathlib.Core.List.{List, [], ◌∷◌, map}
-use Prim.Native.Nat.{ℕ, suc, ◌+◌, ◌*◌, ◌/◌, ◌%◌, ◌<◌, ◌≤◌}
+use mathlib.Core.List.{List, [], ◌∷◌}
+use Prim.Native.Nat.{ℕ, ◌+◌, ◌*◌, ◌/◌, ◌%◌, ◌<◌}
+use native.Mathlib.Omega.{arith}
 use native.Mathlib.Nat.{div-add-mod', mul_comm, add-zero}
 use borrow.Author.Tests.{eqb-true, eqb-false, eq-eqb}
 use lib.Arith.{digits_div, digits_mod}
 use lib.Dec.{eqb}
-use lib.ListN.{length, drop, get_or}
+use lib.ListN.{get_or}
 use lib.Ieee.{Float}
-use lib.Seq.{drop-cons}
 use Rattle.std.specs.Prelude.{Result, Ok, Err}
 use Rattle.std.specs.Result.{result_and, is_ok}
-use Rattle.std.proofs.lemmas.List.{at_drop_all}
-use Rattle.refusal.specs.First.{Checked, first_of}
+use Rattle.refusal.specs.First.{Checked, unless, first}
 use Rattle.refusal.specs.declared.Refusal.{Refusal}
 use Rattle.refusal.specs.declared.Refusal.TheVariants.{Projection}
 use Rattle.refusal.specs.declared.View.{View}
 use Rattle.refusal.specs.declared.View.TheVariants.{First, Second}
-use Rattle.refusal.proofs.Scans.{is_bad}
+use Rattle.refusal.proofs.Scans.{Scanned}
 use Rattle.projection.specs.declared.Projected.{Projected}
 use Rattle.correspondences.specs.Problem.{Problem, triple, pair, observation, project}
 use Rattle.checks.specs.Checks.{check_view, check_projection}
@@ -44,42 +43,29 @@ multiple l e n h = by (eqb l (e * n)) refl
         rw (eq-eqb (l / e) n (ap (λ (k : ℕ). k / e) m ∙ digits_div n h), eq-eqb (l % e) 0 (ap (λ (k : ℕ). k % e) m ∙ digits_mod n h)) refl
     by false q = parts (eqb (l / e) n) (eqb (l % e) 0) refl refl (eqb-false l (e * n) q)
 
--- ---- item by item of a list: those before i were not refused, and the rest decides the whole
-first_of_next : (r : Checked) (rs : List Checked) → first_of (r ∷ rs) ≡ result_and r (first_of rs)
-first_of_next (Ok tt) [] = refl
-first_of_next (Err e) [] = refl
-first_of_next r (s ∷ rs) = refl
-
-module _ {A : Type 0} (whole : Checked) (check : A → Checked) (xs : List A) (i : ℕ) (inv : whole ≡ first_of (map check (drop i xs))) where
-  list_ends : length xs ≤ i → whole ≡ Ok tt
-  list_ends h = inv ∙ at_drop_all (λ (l : List A). first_of (map check l)) xs i h
-
-  list_leaves : (d : A) (r : Refusal) → i < length xs → check (get_or xs i d) ≡ Err r → whole ≡ Err r
-  list_leaves d r h e =
-      inv
-      ∙ ap (λ (l : List A). first_of (map check l)) (drop-cons xs i d h)
-      ∙ first_of_next (check (get_or xs i d)) (map check (drop (suc i) xs))
-      ∙ ap (λ (x : Checked). result_and x (first_of (map check (drop (suc i) xs)))) e
+-- ---- the views of a point, by their place in the list of both
 
 abbrev views : List View
 views = First ∷ Second ∷ []
 
--- the views of a point from the k-th on
-module _ (p : Problem) (i k : ℕ) (inv : check_projection p i ≡ first_of (map (check_view p i) (drop k views))) where
-  pub views_end : 2 ≤ k → check_projection p i ≡ Ok tt
-  views_end h = list_ends (check_projection p i) (check_view p i) views k inv h
+abbrev pub check_at : Problem → ℕ → ℕ → Checked
+check_at p i k = check_view p i (get_or views k First)
 
-  two_seen : (view : View) → pair (observation p.view1 p.view2 view i) 0 ≡ observation p.view1 p.view2 view i
-  two_seen First = refl
-  two_seen Second = refl
+none_after : (r s : Checked) → result_and r s ≡ result_and r (result_and s (Ok tt))
+none_after (Ok u) (Ok v) = refl
+none_after (Ok u) (Err e) = refl
+none_after (Err e) s = refl
 
-  pub view_leaves : (view : View) (part seen point : List Float) (r : Result Projected Refusal) → k < 2 → view ≡ get_or views k First → part ≡ observation p.view1 p.view2 view i
-      → seen ≡ pair part 0
-      → point ≡ triple p.points i
-      → r ≡ project p.rig view seen point
-      → is_ok r ≡ false
-      → check_projection p i ≡ Err (Projection view i)
-  view_leaves view part seen point r h v a b c d e =
-      let same : r ≡ project p.rig view (observation p.view1 p.view2 view i) (triple p.points i) = rw (d, b, a, c, two_seen view) refl in
-      let refused : check_view p i view ≡ Err (Projection view i) = is_bad (Projection view i) _ (is_ok r) (ap is_ok same) e in
-      list_leaves (check_projection p i) (check_view p i) views k inv First (Projection view i) h (ap (check_view p i) (sym v) ∙ refused)
+pub views_begin : (p : Problem) (i : ℕ) → Scanned (check_projection p i) (check_at p i) 2 0
+unfolding first
+views_begin p i = (omega arith, none_after (check_view p i First) (check_view p i Second))
+
+two_seen : (p : Problem) (view : View) (i : ℕ) → pair (observation p.view1 p.view2 view i) 0 ≡ observation p.view1 p.view2 view i
+two_seen p First i = refl
+two_seen p Second i = refl
+
+-- what a view's test says of its check
+pub seen_check : (p : Problem) (i k : ℕ) (view : View) (part seen point : List Float) (r : Result Projected Refusal) (good : Bool) → view ≡ get_or views k First
+    → part ≡ observation p.view1 p.view2 view i → seen ≡ pair part 0 → point ≡ triple p.points i → r ≡ project p.rig view seen point → is_ok r ≡ good
+    → check_at p i k ≡ unless good (Projection view i)
+seen_check p i k view part seen point r good v a b c d e = rw (← e, ← v, d, b, a, c, two_seen p view i) refl

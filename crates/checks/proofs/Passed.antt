@@ -1,10 +1,11 @@
--- Tests that hold together, and what rows 1 to 9 leave. Assumes nothing.
-use mathlib.Core.Path.{◌≡◌, refl, sym, subst}
-use mathlib.Core.Bool.{Bool, true, false, ◌&&◌, true≢false}
+-- What rows 1 to 9 leave. Assumes nothing.
+use mathlib.Core.Path.{◌≡◌, sym, subst}
+use mathlib.Core.Bool.{true, ◌&&◌}
 use Prim.Native.Nat.{ℕ, ◌*◌, ◌≤◌}
 use borrow.Author.Tests.{eqb-true, leb-true}
 use lib.Dec.{T, eqb, leb}
 use Rattle.std.specs.Prelude.{Ok}
+use Rattle.std.proofs.lemmas.Bool.{and_parts}
 use Rattle.refusal.specs.First.{unless}
 use Rattle.refusal.specs.declared.Refusal.TheVariants.{Lengths, TooManyPoints, Damping}
 use Rattle.point_damping.specs.Damping.{good_damping}
@@ -12,14 +13,10 @@ use Rattle.correspondences.specs.Problem.{Problem, count}
 use Rattle.checks.specs.Checks.{lengths_fit, max_points, Fits, check_values, check}
 use Rattle.refusal.proofs.Scans.{after_ok, held}
 
-pub both_hold : (x y : Bool) → (x && y) ≡ true → (x ≡ true) × (y ≡ true)
-both_hold true y e = (refl, e)
-both_hold false y e = absurd (true≢false (sym e))
-
 all_fit : (p v w n : ℕ) → (eqb p (3 * n) && eqb v (2 * n) && eqb w (2 * n)) ≡ true → leb n max_points ≡ true → (p ≡ 3 * n) × (v ≡ 2 * n) × (w ≡ 2 * n) × (n ≤ max_points)
 all_fit p v w n t h =
-    let one = both_hold (eqb p (3 * n) && eqb v (2 * n)) (eqb w (2 * n)) t in
-    let two = both_hold (eqb p (3 * n)) (eqb v (2 * n)) one.0 in
+    let one = and_parts (eqb p (3 * n) && eqb v (2 * n)) (eqb w (2 * n)) t in
+    let two = and_parts (eqb p (3 * n)) (eqb v (2 * n)) one.0 in
     (eqb-true p (3 * n) two.0, eqb-true v (2 * n) two.1, eqb-true w (2 * n) one.1, leb-true n max_points h)
 
 -- what a problem is that rows 1 to 9 let through
