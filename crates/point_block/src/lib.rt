@@ -50,10 +50,9 @@ impl PointBlockFactor {
     pub fn factor_damped(damped: [f64; 9]) -> Result<Self, Refusal>
         ensures { result ≡ Factor.factor_damped damped }
     {
-        match cholesky::invert(damped, point_damping::floored_diagonal(damped)) {
-            Some(inverse) => Ok(Self { inverse }),
-            None => Err(Refusal::NotFactored),
-        }
+        let diagonal = point_damping::floored_diagonal(damped);
+        let inverse = cholesky::invert(damped, diagonal).ok_or(Refusal::NotFactored)?;
+        Ok(Self { inverse })
     }
 
     pub fn solve(self, x: [f64; 3]) -> [f64; 3]
