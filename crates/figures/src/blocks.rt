@@ -1,5 +1,6 @@
 // The figures of the point block's factor and of the solve.
 use point_block::PointBlockFactor;
+use std::array;
 use std::io;
 
 pub fn print(rt: &impl Print) -> io::Result<()> {
@@ -38,12 +39,7 @@ fn diagonal(rt: &impl Print, name: &str, a: f64, b: f64, c: f64, damping: f64) -
 
 // The solution of (d times the identity) x = (1, 2, 3, 4, 5)
 fn solved(rt: &impl Print, name: &str, d: f64) -> io::Result<()> {
-    let mut a = [0.0; 25];
-    a[0] = d;
-    a[6] = d;
-    a[12] = d;
-    a[18] = d;
-    a[24] = d;
+    let a = array::from_fn(|i| if i % 6 == 0 { d } else { 0.0 });
     print!(rt; "{name}:")?;
     match solver::solve_positive_definite(a, [1.0, 2.0, 3.0, 4.0, 5.0]) {
         Ok(x) => show::patterns(rt, &x),
