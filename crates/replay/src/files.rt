@@ -16,7 +16,13 @@ pub fn replay<I: Numbers, O: Numbers, F: Fn(&I, &mut O) -> u64>(
 ) -> io::Result<()>
     requires { F.IsAlwaysCallable call }
 {
-    let n = stored_file::read(rt, file.as_bytes(), room);
+    let n = match stored_file::read(rt, file.as_bytes(), room) {
+        Ok(n) => n,
+        Err(unread) => {
+            println!(rt; "{file} {unread}")?;
+            0
+        }
+    };
     match str::from_utf8(&room[..n]) {
         Ok(text) => lines(rt, file, text, &call),
         Err(_) => println!(rt; "{file} is not text"),

@@ -33,7 +33,14 @@ fn replay(rt: &(impl Env + Files + Print), argument: usize) -> io::Result<bool> 
     rt.write_all(name)?;
     rt.write_all(b"\n")?;
     let mut bytes = [0u8; ROOM];
-    let n = stored_file::read(rt, name, &mut bytes);
+    let n = match stored_file::read(rt, name, &mut bytes) {
+        Ok(n) => n,
+        Err(unread) => {
+            rt.write_all(name)?;
+            println!(rt; " {unread}")?;
+            0
+        }
+    };
     print_list::of(rt, &bytes[..n])?;
     Ok(true)
 }

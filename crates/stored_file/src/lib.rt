@@ -2,31 +2,35 @@
 #![tactic(auto)]
 
 ghost use Rattle.std.specs.Counts.{IsPrefixLen};
+ghost use Rattle.std.specs.Io.{ReadsAtMost};
 
-use std::fs;
+use std::error::Error;
 use std::io::Read;
 use std::rt::Files;
+use std::{fmt, fs};
 
-// Reads the file into room, and answers how many bytes it has. Of a file that is missing, or that fills
-// the room and so may go on behind it, it prints that, and the answer is 0.
-pub fn read(rt: &(impl Files + Print), name: &[u8], room: &mut [u8]) -> usize
-    ensures { IsPrefixLen result room.new }
-{
-    let Some(mut file) = opened(rt, name) else {
-        let _ = rt.write_all(name);
-        let _ = rt.write_all(b" missing\n");
-        return 0;
-    };
-    let n = read_full(&mut file, room);
-    if n == room.len() {
-        let _ = rt.write_all(name);
-        let _ = rt.write_all(b" too long\n");
-        return 0;
-    }
-    n
+// Why a file is not read
+#[derive(Clone, Copy, Debug, PartialEq, Eq)]
+pub enum Unread {
+    // or its name is no text
+    Missing,
+    // It fills the room, and so may go on behind it.
+    TooLong,
 }
 
-// The file, where it can be opened; none of a name that is no text.
+// Reads the file into room, and answers how many bytes it has.
+pub fn read(rt: &impl Files, name: &[u8], room: &mut [u8]) -> Result<usize, Unread>
+    ensures { ReadsAtMost result room.new }
+{
+    let mut file = opened(rt, name).ok_or(Unread::Missing)?;
+    let n = read_full(&mut file, room);
+    if n == room.len() {
+        return Err(Unread::TooLong);
+    }
+    Ok(n)
+}
+
+// The file, where it can be opened; none of a name that is no text
 fn opened<R: Files>(rt: &R, name: &[u8]) -> Option<R::File> {
     fs::open(rt, str::from_utf8(name).ok()?).ok()
 }
@@ -48,3 +52,14 @@ pub fn read_full(input: &mut impl Read, room: &mut [u8]) -> usize
     }
     done
 }
+
+impl fmt::Display for Unread {
+    fn fmt<W: fmt::Write>(&self, f: &mut fmt::Formatter<W>) -> fmt::Result {
+        match self {
+            Unread::Missing => write!(f, "missing"),
+            Unread::TooLong => write!(f, "too long"),
+        }
+    }
+}
+
+impl Error for Unread {}
