@@ -5,40 +5,41 @@ ghost use Rattle.lines.specs.Lines as Lines;
 ghost use Rattle.text.specs.Text as Text;
 
 use refusal::Refusal;
+use text::Writer;
 
 // `run`, the number of points, the damping's bits
-pub fn put_run(out: &mut [u8], at: usize, n: u32, damping: f64) -> usize
-    ensures { Text.Put (Lines.run_line n damping) at out.old result out.new }
+pub fn put_run(writer: &mut Writer, n: u32, damping: f64)
+    ensures { Text.Wrote (Lines.run_line n damping) writer.old writer.new }
 {
-    let count_at = text::put(out, at, b"run ");
-    let bits_at = text::put_decimal(out, count_at, n);
-    put_bits(out, bits_at, damping, b"\n")
+    writer.put(b"run ");
+    writer.put_decimal(n);
+    put_bits(writer, damping, b"\n");
 }
 
 // A space, a number's bits, and what follows them
-pub fn put_bits(out: &mut [u8], at: usize, x: f64, after: &[u8]) -> usize
-    ensures { Text.Put (Lines.bits_then x after.now) at out.old result out.new }
+pub fn put_bits(writer: &mut Writer, x: f64, after: &[u8])
+    ensures { Text.Wrote (Lines.bits_then x after.now) writer.old writer.new }
 {
     let digits = hex_digits::digits(number::to_bits(x));
-    text::put_three(out, at, b" ", &digits, after)
+    writer.put_three(b" ", &digits, after);
 }
 
 // `p`, the index, the letter
-#[tactic(auto, using(text::proofs::Puts::put_put), unfolding(crate::specs::Lines::point_line))]
-pub fn put_point(out: &mut [u8], at: usize, i: u32, letter: u8) -> usize
-    ensures { Text.Put (Lines.point_line i letter) at out.old result out.new }
+#[tactic(auto, using(text::proofs::Wrote::wrote_both), unfolding(crate::specs::Lines::point_line))]
+pub fn put_point(writer: &mut Writer, i: u32, letter: u8)
+    ensures { Text.Wrote (Lines.point_line i letter) writer.old writer.new }
 {
-    let index_at = text::put(out, at, b"p ");
-    text::put_decimal_then(out, index_at, i, &[b' ', letter, b'\n'])
+    writer.put(b"p ");
+    writer.put_decimal_then(i, &[b' ', letter, b'\n']);
 }
 
 // `refused`, number, view, index
-pub fn put_refused(out: &mut [u8], at: usize, refusal: Refusal) -> usize
-    ensures { Text.Put (Lines.refused_line refusal) at out.old result out.new }
+pub fn put_refused(writer: &mut Writer, refusal: Refusal)
+    ensures { Text.Wrote (Lines.refused_line refusal) writer.old writer.new }
 {
     let row = refusal.row();
-    let number_at = text::put(out, at, b"refused ");
-    let view_at = text::put_decimal_then(out, number_at, row.number, b" ");
-    let index_at = text::put_decimal_then(out, view_at, row.view, b" ");
-    text::put_decimal_then(out, index_at, row.index, b"\n")
+    writer.put(b"refused ");
+    writer.put_decimal_then(row.number, b" ");
+    writer.put_decimal_then(row.view, b" ");
+    writer.put_decimal_then(row.index, b"\n");
 }

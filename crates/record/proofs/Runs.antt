@@ -20,8 +20,9 @@ use Rattle.run.specs.Run.{number_at, rig, damping, column, run, correspondence_o
 use Rattle.letters.specs.Letters.{letter}
 use Rattle.lines.specs.Lines.{point_line}
 use Rattle.record.specs.Lists.{point_lines}
-use Rattle.text.specs.Text.{Put}
-use Rattle.text.proofs.Puts.{put_none, put_same, put_put}
+use Rattle.text.specs.Text.{Wrote}
+use Rattle.text.specs.declared.Writer.{Writer}
+use Rattle.text.proofs.Wrote.{wrote_none, wrote_same, wrote_both}
 
 entry : (n : ℕ) (f : ℕ → Float) (i : ℕ) → i < n → tabulate n f ! i ≡ f i
 entry zero f i h = absurd (omega arith)
@@ -61,21 +62,17 @@ module _ (r : List ℕ) (i : ℕ) (h : i < point_fields r) where
   unfolding run
   same_block = ap (λ (x : Correspondence). block_of (rig r) x) (sym same_correspondence)
 
-  pub next_line : (start : ℕ) (out : List ℕ) (middle : ℕ) (between : List ℕ) (next : ℕ) (after : List ℕ) → Put (point_lines (run r) i) start out middle between
+  pub next_line : (w v u : Writer) → Wrote (point_lines (run r) i) w v
       → (x : Rig) → x ≡ rig r → (y : Correspondence) → y ≡ correspondence_of r i → (b : LocalLinearization) → b ≡ block_of x y → (d : Float) → d ≡ damping r → (l : ℕ) → l ≡ letter b d
-      → Put (point_line i l) middle between next after → Put (point_lines (run r) (i + 1)) start out next after
+      → Wrote (point_line i l) v u → Wrote (point_lines (run r) (i + 1)) w u
   unfolding point_lines run
-  next_line start out middle between next after p x e y h b f d g l k q =
+  next_line w v u p x e y h b f d g l k q =
       let same : b ≡ block_at (run r) i = f ∙ rw (e, h) same_block in
-      rw (add-one i)
-      (put_put (point_lines (run r) i) (point_line i (letter (block_at (run r) i) (run r).damping)) start out middle between next after p
-      (put_same (point_line i l) (point_line i (letter (block_at (run r) i) (run r).damping)) middle between next after
-      (ap (λ (c : ℕ). point_line i c) (k ∙ rw (g, same) refl))
-      q))
+      rw (add-one i) (wrote_both _ _ w v u p (wrote_same _ _ v u (ap (λ (c : ℕ). point_line i c) (k ∙ rw (g, same) refl)) q))
 
-pub no_lines : (p : Problem) (at : ℕ) (out : List ℕ) → Put (point_lines p 0) at out at out
+pub no_lines : (p : Problem) (w : Writer) → Wrote (point_lines p 0) w w
 unfolding point_lines
-no_lines p at out = put_none at out
+no_lines p w = wrote_none w
 
 -- the four columns, the rig and the damping are the run, so that their system is its system
 pub reduced_is : (r : List ℕ) (n : ℕ) (p v w d : List Float) (x : Rig) (y : Float) (s : Result ReducedSystem Refusal) → n ≡ point_fields r

@@ -14,6 +14,7 @@ use reduced_system::ReducedSystem;
 use refusal::Refusal;
 use std::error::Error;
 use std::fmt;
+use text::Writer;
 
 // No list has more bytes.
 pub const MAX_LIST: usize = 4057;
@@ -47,24 +48,26 @@ pub fn write_list(record: &[u8], out: &mut [u8]) -> Result<usize, TooSmall>
 }
 
 // The list of any record: rows 14 and 15 first
-#[tactic(auto, unfolding(crate::specs::Lists::list, crate::specs::Lists::check))]
+#[tactic(auto, unfolding(text::specs::Text::Wrote, crate::specs::Lists::list, crate::specs::Lists::check))]
 fn put_list(out: &mut [u8], record: &[u8]) -> usize
     ensures { Text.Put (Lists.list «record».now) 0 out.old result out.new }
 {
+    let mut writer = Writer::new(out);
     match WellFormedRecord::new(record) {
-        Ok(record) => put_well_formed(out, &record),
-        Err(refusal) => lines::put_refused(out, 0, refusal),
+        Ok(record) => put_well_formed(&mut writer, &record),
+        Err(refusal) => lines::put_refused(&mut writer, refusal),
     }
+    writer.at
 }
 
 // The list of a record of the right form: rows 3 to 9, then the lines
 #[tactic(auto, unfolding(assembly::specs::Assembly::reduced))]
-fn put_well_formed(out: &mut [u8], record: &WellFormedRecord) -> usize
-    ensures { Text.Put (Lists.listed «record».now (Checks.check (Run.run «record».now))) 0 out.old result out.new }
+fn put_well_formed(writer: &mut Writer, record: &WellFormedRecord)
+    ensures { Text.Wrote (Lists.listed «record».now (Checks.check (Run.run «record».now))) writer.old writer.new }
 {
     match reduced_system(record) {
-        Ok(system) => put_lines(out, record, system),
-        Err(refusal) => lines::put_refused(out, 0, refusal),
+        Ok(system) => put_lines(writer, record, system),
+        Err(refusal) => lines::put_refused(writer, refusal),
     }
 }
 
@@ -89,28 +92,26 @@ fn reduced_system(record: &WellFormedRecord) -> Result<ReducedSystem, Refusal>
 }
 
 // The lines of a run that is not refused
-#[tactic(auto, using(text::proofs::Puts::put_put), unfolding(crate::specs::Lists::lines_of))]
-fn put_lines(out: &mut [u8], record: &WellFormedRecord, system: ReducedSystem) -> usize
-    ensures { Text.Put (Lists.lines_of «record».now system) 0 out.old result out.new }
+#[tactic(auto, using(text::proofs::Wrote::wrote_both), unfolding(crate::specs::Lists::lines_of))]
+fn put_lines(writer: &mut Writer, record: &WellFormedRecord, system: ReducedSystem)
+    ensures { Text.Wrote (Lists.lines_of «record».now system) writer.old writer.new }
 {
     let n = fields::point_fields(record.bytes);
-    let points_at = lines::put_run(out, 0, n as u32, run::damping_of(record.bytes));
-    let sum_at = put_points(out, points_at, record);
-    sum_line::put_sum(out, sum_at, system)
+    lines::put_run(writer, n as u32, run::damping_of(record.bytes));
+    put_points(writer, record);
+    sum_line::put_sum(writer, system);
 }
 
 // A line for each point
 #[tactic(auto, using(crate::proofs::Runs::no_lines, crate::proofs::Runs::next_line))]
-fn put_points(out: &mut [u8], start: usize, record: &WellFormedRecord) -> usize
-    ensures { Text.Put (Lists.point_lines (Run.run «record».now) (Fields.point_fields «record».now)) start out.old result out.new }
+fn put_points(writer: &mut Writer, record: &WellFormedRecord)
+    ensures { Text.Wrote (Lists.point_lines (Run.run «record».now) (Fields.point_fields «record».now)) writer.old writer.new }
 {
     let rig = run::rig_of(record.bytes);
     let damping = run::damping_of(record.bytes);
-    let mut at = start;
     for i in 0..fields::point_fields(record.bytes) as u32 {
         let block = assembly::block_of(rig, run::correspondence_at(record.bytes, i));
         let letter = letters::letter(block, damping);
-        at = lines::put_point(out, at, i, letter);
+        lines::put_point(writer, i, letter);
     }
-    at
 }

@@ -6,22 +6,21 @@ ghost use Rattle.sum_line.specs.SumLine as SumLine;
 ghost use Rattle.text.specs.Text as Text;
 
 use reduced_system::ReducedSystem;
+use text::Writer;
 
 // `sum`, cost and squared residual bits, weak count, validity, verdict
-pub fn put_sum(out: &mut [u8], at: usize, system: ReducedSystem) -> usize
-    ensures { Text.Put (SumLine.sum_line system) at out.old result out.new }
+pub fn put_sum(writer: &mut Writer, system: ReducedSystem)
+    ensures { Text.Wrote (SumLine.sum_line system) writer.old writer.new }
 {
     let valid = system.is_valid();
     let weak = system.weak_point_count;
-    let cost_at = text::put(out, at, b"sum");
-    let squared_at = lines::put_bits(out, cost_at, system.cost, b"");
-    let weak_at = lines::put_bits(out, squared_at, system.squared_residual, b" ");
-    text::put_decimal_then(
-        out,
-        weak_at,
+    writer.put(b"sum");
+    lines::put_bits(writer, system.cost, b"");
+    lines::put_bits(writer, system.squared_residual, b" ");
+    writer.put_decimal_then(
         weak as u32,
         &[b' ', validity(valid), b' ', verdict(valid, weak), b'\n'],
-    )
+    );
 }
 
 fn validity(valid: bool) -> u8

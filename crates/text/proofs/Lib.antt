@@ -1,2 +1,3 @@
 -- Laws of texts put into a buffer, one after the other.
 pub mod Puts
+pub mod Wrote

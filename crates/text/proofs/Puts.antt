@@ -49,10 +49,6 @@ pub put_fits : (t : List ℕ) (at : ℕ) (out : List ℕ) (next : ℕ) (after : 
 unfolding Put
 put_fits t at out next after p h = subst (Left at out next after) (take_all (length out - at) t (omega arith)) p
 
--- the same text by another name
-pub put_same : (s t : List ℕ) (at : ℕ) (out : List ℕ) (next : ℕ) (after : List ℕ) → s ≡ t → Put s at out next after → Put t at out next after
-put_same s t at out next after e p = subst (λ (x : List ℕ). Put x at out next after) e p
-
 -- ---- one after the other
 
 pub put_none : (at : ℕ) (out : List ℕ) → Put [] at out at out
@@ -117,11 +113,6 @@ module _ (s t : List ℕ) (at : ℕ) (out : List ℕ) (middle : ℕ) (between : 
       by : (b : Bool) → leb at (length out) ≡ b → Put (s ++ t) at out next after
       by true e = inside (leb-true at (length out) e)
       by false e = behind (leb-false at (length out) e)
-
--- a text, and then two
-pub put_then : (s t u : List ℕ) (at : ℕ) (out : List ℕ) (middle : ℕ) (between : List ℕ) (next : ℕ) (after : List ℕ)
-    → Put s at out middle between → Put (t ++ u) middle between next after → Put (s ++ t ++ u) at out next after
-put_then s t u at out middle between next after p q = put_same _ _ at out next after (sym (append_assoc s t u)) (put_put s (t ++ u) at out middle between next after p q)
 
 -- ---- without the zeros before a number
 

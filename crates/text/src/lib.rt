@@ -17,6 +17,59 @@ pub fn put(out: &mut [u8], at: usize, text: &[u8]) -> usize
     at + n
 }
 
+// A lent buffer, and the place in it where the next text goes
+#[derive(Drop)]
+pub struct Writer<'a> {
+    pub out: &'a mut [u8],
+    pub at: usize,
+}
+
+impl<'a> Writer<'a> {
+    // At the buffer's beginning
+    pub fn new(out: &'a mut [u8]) -> Writer<'a>
+        ensures { (result.out ≡ out.entry) × (result.at ≡ 0) }
+    {
+        Writer { out, at: 0 }
+    }
+
+    // Puts a text at the place, and moves the place behind it.
+    #[tactic(auto, unfolding(crate::specs::Text::Wrote))]
+    pub fn put(&mut self, text: &[u8])
+        ensures { Text.Wrote text.now self.old self.new }
+    {
+        self.at = put(self.out, self.at, text);
+    }
+
+    // Puts a number in decimal.
+    #[tactic(auto, using(crate::proofs::Puts::tail), unfolding(crate::specs::Text::decimal))]
+    pub fn put_decimal(&mut self, n: u32)
+        ensures { Text.Wrote (Text.decimal n) self.old self.new }
+    {
+        let digits = ten_digits(n);
+        let start = leading_zeros(&digits);
+        self.put(&digits[start..]);
+    }
+
+    // Puts a number in decimal, and what follows it.
+    #[tactic(auto, using(crate::proofs::Wrote::wrote_both))]
+    pub fn put_decimal_then(&mut self, n: u32, after: &[u8])
+        ensures { Text.Wrote (Text.decimal n ++ after.now) self.old self.new }
+    {
+        self.put_decimal(n);
+        self.put(after);
+    }
+
+    // Puts three texts one after the other.
+    #[tactic(auto, using(crate::proofs::Wrote::wrote_both))]
+    pub fn put_three(&mut self, a: &[u8], b: &[u8], c: &[u8])
+        ensures { Text.Wrote (a.now ++ b.now ++ c.now) self.old self.new }
+    {
+        self.put(a);
+        self.put(b);
+        self.put(c);
+    }
+}
+
 fn digit(n: u32) -> u8
     ensures { result ≡ Text.digit n }
 {
@@ -45,33 +98,4 @@ fn leading_zeros(digits: &[u8; 10]) -> usize
     ensures { (result ≤ 9) × (drop result digits.now ≡ Text.without_zeros 9 digits.now) }
 {
     digits[..9].iter().take_while(|d| **d == b'0').count()
-}
-
-// Puts a number in decimal.
-#[tactic(auto, using(crate::proofs::Puts::tail), unfolding(crate::specs::Text::decimal))]
-pub fn put_decimal(out: &mut [u8], at: usize, n: u32) -> usize
-    ensures { Text.Put (Text.decimal n) at out.old result out.new }
-{
-    let digits = ten_digits(n);
-    let start = leading_zeros(&digits);
-    put(out, at, &digits[start..])
-}
-
-// Puts a number in decimal, and what follows it.
-#[tactic(auto, using(crate::proofs::Puts::put_put))]
-pub fn put_decimal_then(out: &mut [u8], at: usize, n: u32, after: &[u8]) -> usize
-    ensures { Text.Put (Text.decimal n ++ after.now) at out.old result out.new }
-{
-    let after_at = put_decimal(out, at, n);
-    put(out, after_at, after)
-}
-
-// Puts three texts one after the other.
-#[tactic(auto, using(crate::proofs::Puts::put_put))]
-pub fn put_three<'a>(out: &mut [u8], at: usize, a: &'a [u8], b: &'a [u8], c: &'a [u8]) -> usize
-    ensures { Text.Put (a.now ++ b.now ++ c.now) at out.old result out.new }
-{
-    let b_at = put(out, at, a);
-    let c_at = put(out, b_at, b);
-    put(out, c_at, c)
 }

@@ -1,7 +1,7 @@
-use Rattle.text.proofs.Puts.{put_put}
+use Rattle.text.proofs.Wrote.{wrote_both}
 use Rattle.lines.specs.Lines.{run_line}
 use Rattle.lines.proofs.put_run.Goals as goal
 
 pub returns : goal.returns
 unfolding run_line
-returns c = put_put _ _ _ _ _ _ _ _ (put_put _ _ _ _ _ _ _ _ c.put-count_at.ensures c.put_decimal-bits_at.ensures) c.put_bits.ensures
+returns c = wrote_both _ _ _ _ _ (wrote_both _ _ _ _ _ c.put.ensures c.put_decimal.ensures) c.put_bits.ensures
