@@ -31,7 +31,7 @@ fn replay(rt: &(impl Env + Files + Print), argument: usize) -> io::Result<bool> 
     };
     let name = &text[..length];
     rt.write_all(name)?;
-    rt.write_all(b"\n")?;
+    println!(rt)?;
     let mut bytes = [0u8; ROOM];
     let n = match stored_file::read(rt, name, &mut bytes) {
         Ok(n) => n,
