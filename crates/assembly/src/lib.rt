@@ -33,9 +33,7 @@ fn damped_system(fitting: &FittingProblem) -> ReducedSystem
     let mut system = ReducedSystem::new();
     for i in 0..problem.count() {
         let local = block_of(problem.rig, problem.correspondence_at(i as u32));
-        if let Ok(next) = schur::add(system, local, problem.damping) {
-            system = next;
-        }
+        system = schur::add(system, local, problem.damping).unwrap_or(system);
     }
     system.finish_damping(problem.damping).unwrap_or(system)
 }
@@ -46,8 +44,5 @@ fn damped_system(fitting: &FittingProblem) -> ReducedSystem
 pub fn block_of(rig: Rig, correspondence: Correspondence) -> LocalLinearization
     ensures { result ≡ Assembly.block_of rig correspondence }
 {
-    match linearization::linearize_point(rig, correspondence) {
-        Ok(local) => local,
-        Err(_) => linearization::NO_BLOCK,
-    }
+    linearization::linearize_point(rig, correspondence).unwrap_or(linearization::NO_BLOCK)
 }

@@ -89,10 +89,9 @@ fn point_step(
 fn point_terms_of(rig: Rig, correspondence: Correspondence) -> PointTerms
     ensures { result ≡ Linearize.point_terms (Assembly.block_of rig correspondence) }
 {
-    match linearization::point_terms(rig, correspondence) {
-        Ok(terms) => terms,
-        Err(_) => PointTerms::from(linearization::NO_BLOCK),
-    }
+    linearization::point_terms(rig, correspondence).unwrap_or(PointTerms::from(
+        linearization::NO_BLOCK,
+    ))
 }
 
 // The sum begins at −0.
