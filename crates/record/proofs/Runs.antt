@@ -1,13 +1,16 @@
 -- The numbers of a record by point and by column, and the lines of its points. Assumes nothing.
 use mathlib.Core.Path.{◌≡◌, refl, sym, ap, ◌∙◌}
 use mathlib.Core.List.{List}
-use Prim.Native.Nat.{ℕ, zero, suc, ◌+◌, ◌*◌, ◌/◌, ◌%◌, ◌<◌}
+use Prim.Native.Nat.{ℕ, ◌+◌, ◌*◌, ◌/◌, ◌%◌, ◌<◌}
+use native.Mathlib.Nat.{zero-add}
 use native.Mathlib.Numerals.{add-one}
 use native.Mathlib.Omega.{arith}
 use lib.ListN.{take}
-use lib.Ieee.{Float}
+use lib.Ieee.{Float, nan}
 use Rattle.number.specs.Vectors.{◌!◌, tabulate}
+use Rattle.number.proofs.Fill.{tabulate_maps}
 use Rattle.std.specs.Prelude.{Result}
+use Rattle.std.proofs.lemmas.List.FromFn.{get_or-map-range_with_len}
 use Rattle.refusal.specs.declared.Refusal.{Refusal}
 use Rattle.views.specs.declared.Correspondence.{Correspondence}
 use Rattle.linearization.specs.declared.linearize.LocalLinearization.{LocalLinearization}
@@ -25,9 +28,7 @@ use Rattle.text.specs.declared.Writer.{Writer}
 use Rattle.text.proofs.Wrote.{wrote_none, wrote_same, wrote_both}
 
 entry : (n : ℕ) (f : ℕ → Float) (i : ℕ) → i < n → tabulate n f ! i ≡ f i
-entry zero f i h = absurd (omega arith)
-entry (suc n) f zero h = refl
-entry (suc n) f (suc i) h = entry n (λ j. f (suc j)) i (omega arith)
+entry n f i h = rw (tabulate_maps n f) (get_or-map-range_with_len f 0 n i i nan h (zero-add i))
 
 -- an entry of a column is the number where it stands in the record
 place : (r : List ℕ) (first each j at : ℕ) → 258 + first + 67 * (j / each) + 8 * (j % each) ≡ at → column r first each j ≡ number_at r at
