@@ -1,16 +1,17 @@
--- The absolute value by a difference from 0, and the test for a finite value by a difference from itself. Assumes nothing.
+-- The absolute value by a difference from 0, and the library's test for a finite value. Assumes nothing.
 use mathlib.Core.Path.{◌≡◌, refl}
-use mathlib.Core.Bool.{Bool, true, false, not, beq, true≢false, false≢true, and-false}
+use mathlib.Core.Bool.{true, false, true≢false, false≢true}
 use Prim.Native.Nat.{ℕ, ◌+◌, ◌-◌, ◌*◌, ◌≤◌}
-use native.Mathlib.Nat.{le_refl, zero-lt-suc, sub_self, zero-sub, zero-mul, zero-add, mul-one, one-mul, mul-pos}
+use native.Mathlib.Nat.{zero-lt-suc, zero-sub, zero-mul, zero-add, mul-one, one-mul, mul-pos}
 use native.Mathlib.Omega.{arith}
-use borrow.Author.Tests.{ltb-false, le-ltb}
-use lib.IntN.{ℤ, pos}
-use lib.Dec.{T, ltb}
-use lib.Ieee.{Float, nan, inf, fin, Format, binary32, binary64, up, down, neg, sub, lt, eq, fits, of_bits}
+use borrow.Author.Tests.{ltb-false}
+use lib.IntN.{pos}
+use lib.Dec.{T}
+use lib.Ieee.{Float, nan, inf, fin, Format, binary32, binary64, up, down, neg, sub, lt, fits, of_bits}
 use lib.Ieee.Fits.{down_pos, neg-fits}
+use Rattle.std.specs.Float.{float_is_finite}
 use Rattle.number.specs.Parts.{is_finite, abs}
-use Rattle.number.proofs.Values.{round_value, round_zero}
+use Rattle.number.proofs.Values.{round_value}
 
 zero_is : (f : Format) → of_bits f 0 ≡ fin false 0 (pos 0)
 unfolding of_bits
@@ -54,22 +55,10 @@ from_zero f (fin false m e) p h =
 pub abs_rest : (f : Format) (x : Float) → T (fits f x) → lt (of_bits f 0) x ≡ false → sub f (of_bits f 0) x ≡ abs x
 abs_rest f x p h = rw (zero_is f) (from_zero f x p (rw (zero_is f) at h))
 
--- ---- a finite value less itself is +0, and an infinity less itself a NaN
+-- ---- the library's test for a finite value
 
-ltb_self : (a : ℕ) → ltb a a ≡ false
-ltb_self a = le-ltb a a (le_refl a)
-
-beq_not : (s : Bool) → beq s (not s) ≡ false
-beq_not true = refl
-beq_not false = refl
-
-less_itself : (f : Format) (s : Bool) (m : ℕ) (e : ℤ) → sub f (fin s m e) (fin s m e) ≡ fin false 0 (pos 0)
-unfolding sub
-less_itself f s m e = simp (beq_not, ltb_self, sub_self, and-false) (round_zero f false (down e * down e) (mul-pos (down_pos e) (down_pos e)))
-
-pub finite_test : (f : Format) (x : Float) → eq (sub f x x) (of_bits f 0) ≡ is_finite x
-unfolding sub eq is_finite
-finite_test f nan = refl
-finite_test f (inf true) = refl
-finite_test f (inf false) = refl
-finite_test f (fin s m e) = rw (less_itself f s m e, zero_is f)
+pub library_is_finite : (x : Float) → float_is_finite x ≡ is_finite x
+unfolding float_is_finite is_finite
+library_is_finite nan = refl
+library_is_finite (inf s) = refl
+library_is_finite (fin s m e) = refl

@@ -9,7 +9,7 @@ pub const EPSILON64: f64 = 1.4210854715202004e-14;
 pub const EPSILON192: f64 = 4.263256414560601e-14;
 
 // `f64::MIN_POSITIVE`, the smallest normal number
-pub const MIN_POSITIVE: f64 = 2.2250738585072014e-308;
+pub const MIN_POSITIVE: f64 = f64::MIN_POSITIVE;
 
 mod bits;
 mod parts;

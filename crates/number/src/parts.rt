@@ -4,7 +4,7 @@ ghost use Rattle.number.specs.Binary64 as Binary64;
 ghost use Rattle.number.specs.Parts as Parts;
 
 // `f64::abs`. The difference from 0 gives +0 for either zero, where a change of sign would turn +0
-// into −0.
+// into −0. The library's own takes two comparisons.
 #[tactic(auto, using(crate::proofs::Differences::abs_above, crate::proofs::Differences::abs_rest))]
 pub fn abs(x: f64) -> f64
     ensures { result ≡ Parts.abs x }
@@ -12,12 +12,12 @@ pub fn abs(x: f64) -> f64
     if 0.0 < x { x } else { 0.0 - x }
 }
 
-// `f64::is_finite`. An infinity less itself is a NaN.
-#[tactic(auto, using(crate::proofs::Differences::finite_test))]
+// `f64::is_finite`
+#[tactic(auto, using(crate::proofs::Differences::library_is_finite))]
 pub fn is_finite(x: f64) -> bool
     ensures { result ≡ Parts.is_finite x }
 {
-    x - x == 0.0
+    x.is_finite()
 }
 
 pub fn positive_finite(x: f64) -> bool
@@ -30,5 +30,5 @@ pub fn positive_finite(x: f64) -> bool
 pub fn recip(x: f64) -> f64
     ensures { result ≡ Binary64.recip x }
 {
-    1.0 / x
+    x.recip()
 }
