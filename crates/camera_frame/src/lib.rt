@@ -24,9 +24,5 @@ pub fn rotate(rotation: [f64; 9], point: [f64; 3]) -> [f64; 3]
 pub fn camera_point(rotated: [f64; 3], translation: [f64; 3]) -> [f64; 3]
     ensures { result ≡ Pose.camera_point rotated translation }
 {
-    [
-        rotated[0] + translation[0],
-        rotated[1] + translation[1],
-        rotated[2] + translation[2],
-    ]
+    array::from_fn(|i| rotated[i] + translation[i])
 }
