@@ -11,7 +11,7 @@ ghost use Rattle.loss.specs.Loss as Loss;
 pub fn norm(residual: [f64; 2]) -> f64
     ensures { result ≡ Loss.norm residual }
 {
-    root::sqrt(-0.0 + residual[0] * residual[0] + residual[1] * residual[1])
+    root::sqrt(vectors::dot(residual, residual))
 }
 
 // The weight of a view's rows: the inverse deviation times the root of the loss's weight. Plain

@@ -2,7 +2,7 @@
 use Rattle.std.specs.Prelude.{ℕ, zero as zero·, suc, Bool, true, ◌&&◌, List, [], ◌∷◌, get_or, Float}
 use Rattle.std.specs.Float.{nan}
 use Rattle.std.specs.Float.Ieee.{eq}
-use Rattle.number.specs.Binary64.{◌⊕◌, zero, neg_zero}
+use Rattle.number.specs.Binary64.{◌⊕◌, ◌⊗◌, zero, neg_zero}
 use Rattle.number.specs.Parts.{is_finite}
 
 infixl 90 ◌!◌
@@ -36,3 +36,7 @@ tabulate (suc n) f = f 0 ∷ tabulate n (λ i. f (suc i))
 -- n zeros
 abbrev pub zeros : ℕ → List Float
 zeros n = tabulate n (λ i. zero)
+
+-- `.sum()` of the products of n entries
+abbrev pub dot : ℕ → List Float → List Float → Float
+dot n x y = sum (tabulate n (λ i. x ! i ⊗ y ! i))

@@ -98,5 +98,5 @@ fn point_terms_of(rig: Rig, correspondence: Correspondence) -> PointTerms
 fn squared_norm(x: [f64; 3]) -> f64
     ensures { result ≡ Steps.squared_norm x }
 {
-    -0.0 + x[0] * x[0] + x[1] * x[1] + x[2] * x[2]
+    vectors::dot(x, x)
 }

@@ -15,7 +15,7 @@ use std::array;
 pub fn dot5(x: [f64; 5], y: [f64; 5]) -> f64
     ensures { result ≡ PoseModel.dot5 x y }
 {
-    -0.0 + x[0] * y[0] + x[1] * y[1] + x[2] * y[2] + x[3] * y[3] + x[4] * y[4]
+    vectors::dot(x, y)
 }
 
 #[tactic(auto, unfolding(crate::specs::PoseModel::sum5))]

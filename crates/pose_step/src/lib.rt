@@ -5,7 +5,9 @@
 #![tactic(auto)]
 
 ghost use Rattle.std.specs.Prelude.{◌≡◌};
+ghost use Rattle.number.specs.Vectors as Vectors;
 ghost use Rattle.pose_step.specs.PoseStep as PoseStep;
+ghost use Rattle.root.specs.Root as Root;
 
 // The most that a step turns or moves the second camera
 const MAX_LENGTH: f64 = 0.5;
@@ -32,9 +34,13 @@ fn scaled(x: [f64; 5], by: f64) -> [f64; 5]
 fn step_length(x: [f64; 5]) -> f64
     ensures { result ≡ PoseStep.step_length x }
 {
-    let rotation = root::sqrt(-0.0 + x[0] * x[0] + x[1] * x[1] + x[2] * x[2]);
-    let translation = root::sqrt(-0.0 + x[3] * x[3] + x[4] * x[4]);
-    extrema::max(rotation, translation)
+    extrema::max(length([x[0], x[1], x[2]]), length([x[3], x[4]]))
+}
+
+fn length<const N: usize>(v: [f64; N]) -> f64
+    ensures { result ≡ Root.sqrt (Vectors.dot N v.entry v.entry) }
+{
+    root::sqrt(vectors::dot(v, v))
 }
 
 // The limited step of a solution

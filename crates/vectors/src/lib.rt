@@ -19,3 +19,15 @@ pub fn all_finite(values: &[f64]) -> bool
 {
     values.iter().all(|x| number::is_finite(*x))
 }
+
+// The sum of the products, from −0
+#[tactic(auto, using(crate::proofs::Products::dot_next))]
+pub fn dot<const N: usize>(x: [f64; N], y: [f64; N]) -> f64
+    ensures { result ≡ Vectors.dot N x.entry y.entry }
+{
+    let mut sum = -0.0;
+    for i in 0..N {
+        sum += x[i] * y[i];
+    }
+    sum
+}

@@ -1,0 +1,2 @@
+-- Laws of lists of numbers.
+mod Products
