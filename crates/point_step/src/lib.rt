@@ -92,7 +92,5 @@ fn cross_column(cross: [f64; 15], i: usize) -> [f64; 5]
 fn damping_norm(diagonal: [f64; 3], step: [f64; 3]) -> f64
     ensures { result ≡ Steps.damping_norm diagonal step }
 {
-    -0.0 + diagonal[0] * step[0] * step[0]
-        + diagonal[1] * step[1] * step[1]
-        + diagonal[2] * step[2] * step[2]
+    vectors::dot(array::from_fn(|i| diagonal[i] * step[i]), step)
 }

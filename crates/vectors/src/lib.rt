@@ -1,4 +1,5 @@
-// What is asked of a list of numbers: an entry, and whether all are finite.
+// What is asked of a list of numbers: an entry, whether all are finite, and the sum of the products
+// with another's.
 #![tactic(auto)]
 
 ghost use Rattle.std.specs.Prelude.{◌≡◌};
