@@ -1,7 +1,6 @@
 // The figures of the point block's factor and of the solve.
 use point_block::PointBlockFactor;
-use std::array;
-use std::io;
+use std::{array, io};
 
 pub fn print(rt: &impl Print) -> io::Result<()> {
     diagonal(rt, "block (4, 1, 1)", 4.0, 1.0, 1.0, 0.0)?;
