@@ -31,6 +31,7 @@ fn damped_system(fitting: &FittingProblem) -> ReducedSystem
 {
     let problem = fitting.problem;
     let mut system = ReducedSystem::new();
+    // by index, as a point's numbers stand in four lists
     for i in 0..problem.count() {
         let local = block_of(problem.rig, problem.correspondence_at(i as u32));
         system = schur::add(system, local, problem.damping).unwrap_or(system);

@@ -19,6 +19,7 @@ pub struct Change {
     pub gradient: [f64; 5],
     pub point_model_reduction: f64,
     pub minimum_point_rcond: f64,
+    // two flags that do not depend on one another, so no enum
     pub factored: bool,
     pub weak: bool,
 }

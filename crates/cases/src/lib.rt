@@ -25,7 +25,7 @@ pub struct Case<'a> {
     answer: Answer<'a>,
 }
 
-// The patterns of the numbers that a call gave, or its refusal
+// The patterns of the numbers that a call gave, or its refusal by the numbers that stand in the line
 #[derive(Clone, Copy)]
 enum Answer<'a> {
     Numbers(&'a str),

@@ -93,7 +93,7 @@ impl FittingProblem<'_> {
         self.check_projections()
     }
 
-    // Row 9: both loops are left at the first view that does not project.
+    // Row 9: both loops, labelled as document 01 asks, are left at the first view that does not project.
     #[tactic(auto, using(refusal::proofs::Scans::leaves, refusal::proofs::Scans::goes_on, refusal::proofs::Scans::ends))]
     fn check_projections(&self) -> Result<(), Refusal>
         ensures { result ≡ First.first (Checks.check_projection (Problems.of self.now.problem.now)) 0 (Problems.count (Problems.of self.now.problem.now)) }
@@ -123,7 +123,7 @@ fn good_baseline(baseline: f64) -> bool
     number::is_finite(baseline) && !(baseline <= number::EPSILON64)
 }
 
-// Row 6
+// Row 6, with the index that the refusal names
 #[tactic(auto, using(refusal::proofs::Scans::leaves, refusal::proofs::Scans::goes_on, refusal::proofs::Scans::ends))]
 fn check_points(points: &[f64], n: u32) -> Result<(), Refusal>
     ensures { result ≡ First.first (Checks.check_point points.now) 0 n }
@@ -136,7 +136,7 @@ fn check_points(points: &[f64], n: u32) -> Result<(), Refusal>
     Ok(())
 }
 
-// Row 8 for one view
+// Row 8 for one view, with the index that the refusal names
 #[tactic(auto, using(refusal::proofs::Scans::leaves, refusal::proofs::Scans::goes_on, refusal::proofs::Scans::ends))]
 fn check_view(name: View, view: &[f64], n: u32) -> Result<(), Refusal>
     ensures { result ≡ First.first (Checks.check_observation name view.now) 0 n }

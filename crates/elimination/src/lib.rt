@@ -88,6 +88,7 @@ fn cross_row(cross: [f64; 15], i: usize) -> [f64; 3]
     array::from_fn(|j| cross[3 * i + j])
 }
 
+// Not `vectors::dot`, which begins at −0
 #[tactic(auto, unfolding(crate::specs::Elimination::dot3))]
 fn dot3(x: [f64; 3], y: [f64; 3]) -> f64
     ensures { result ≡ Elimination.dot3 x y }

@@ -144,6 +144,7 @@ fn hessians(rt: &impl Print, a: ReducedSystem, b: ReducedSystem) -> io::Result<(
 }
 
 fn vectors(rt: &impl Print, a: ReducedSystem, b: ReducedSystem) -> io::Result<()> {
+    // by index, as three pairs of lists are printed entry by entry
     for i in 0..5 {
         numbers(rt, "gradient", a.gradient[i], b.gradient[i])?;
         numbers(

@@ -24,7 +24,7 @@ pub fn put_bits(writer: &mut Writer, x: f64, after: &[u8])
     writer.put_three(b" ", &digits, after);
 }
 
-// `p`, the index, the letter
+// `p`, the index, the letter as it stands in the text
 #[tactic(auto, using(text::proofs::Wrote::wrote_both), unfolding(crate::specs::Lines::point_line))]
 pub fn put_point(writer: &mut Writer, i: u32, letter: u8)
     ensures { Text.Wrote (Lines.point_line i letter) writer.old writer.new }

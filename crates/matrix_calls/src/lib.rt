@@ -103,6 +103,7 @@ pub fn solve_positive_definite(a: &[f64], b: &[f64], out: &mut [f64]) -> u64
     answers::answer(x, out)
 }
 
+// With a closure in its place the proof did not close.
 fn packed(factor: PointBlockFactor) -> [f64; 6]
     ensures { result ≡ factor.inverse }
 {

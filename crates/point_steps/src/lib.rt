@@ -56,6 +56,7 @@ fn fill(problem: &Problem, pose_step: [f64; 5], room: &mut [f64]) -> Sums
 {
     let mut squared = 0.0;
     let mut damping_norm = 0.0;
+    // by index: of what `chunks_exact_mut` yields a proof knows nothing
     for i in 0..problem.count() {
         let correspondence = problem.correspondence_at(i as u32);
         let moved = point_step(problem.rig, correspondence, problem.damping, pose_step).unwrap_or(

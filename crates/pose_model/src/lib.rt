@@ -10,7 +10,7 @@ ghost use Rattle.pose_model.specs.PoseModel as PoseModel;
 
 use std::array;
 
-// A sum of products, from −0
+// A sum of products, from −0: `vectors::dot` by the name of the definitions
 #[tactic(auto, unfolding(crate::specs::PoseModel::dot5))]
 pub fn dot5(x: [f64; 5], y: [f64; 5]) -> f64
     ensures { result ≡ PoseModel.dot5 x y }
@@ -25,7 +25,7 @@ pub fn sum5(x: [f64; 5], y: [f64; 5]) -> [f64; 5]
     array::from_fn(|i| x[i] + y[i])
 }
 
-// The diagonal of a 5 by 5 matrix
+// The diagonal of a 5 by 5 matrix; an array of N * N can't be named for any N
 #[tactic(auto, unfolding(crate::specs::PoseModel::diagonal5))]
 pub fn diagonal5(h: [f64; 25]) -> [f64; 5]
     ensures { result ≡ PoseModel.diagonal5 h }

@@ -82,6 +82,7 @@ fn linearized(camera: PinholeCamera, observation: [f64; 2], point: [f64; 3]) -> 
     }
 }
 
+// Written out, which is faster than by `vectors::all_finite`
 #[tactic(auto, unfolding(crate::specs::Projection::all_finite))]
 fn all_finite(projected: Projected) -> bool
     ensures { result ≡ Projection.all_finite projected }

@@ -102,7 +102,7 @@ fn put_lines(writer: &mut Writer, record: &WellFormedRecord, system: ReducedSyst
     sum_line::put_sum(writer, system);
 }
 
-// A line for each point
+// A line for each point, with its index
 #[tactic(auto, using(crate::proofs::Runs::no_lines, crate::proofs::Runs::next_line))]
 fn put_points(writer: &mut Writer, record: &WellFormedRecord)
     ensures { Text.Wrote (Lists.point_lines (Run.run «record».now) (Fields.point_fields «record».now)) writer.old writer.new }

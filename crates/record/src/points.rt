@@ -27,6 +27,7 @@ impl Column {
             take count result ≡ Vectors.tabulate count (Columns.number «record».now self) }
     {
         let mut numbers = [0.0; 3 * MAX_POINTS];
+        // by index, into the front of an array of fixed size
         for j in 0..self.each() * fields::point_fields(record.bytes) {
             numbers[j] = self.number(record.bytes, j);
         }

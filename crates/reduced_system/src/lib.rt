@@ -22,6 +22,7 @@ pub struct ReducedSystem {
     pub scaled_point_gradient_inf_norm: f64,
     pub weak_point_count: u16,
     pub minimum_point_rcond: f64,
+    // the Rust's own flag: the sums are there whether it is set or not
     pub valid: bool,
     pub block_count: u16,
 }

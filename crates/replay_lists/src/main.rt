@@ -13,6 +13,7 @@ const NAME: usize = 64;
 const ROOM: usize = record::MAX_RECORD + 2;
 
 fn main(rt: HostRuntime) -> io::Result<()> {
+    // counted, as `env::args` allocates
     for i in 1..usize::MAX {
         if !replay(&rt, i)? {
             break;

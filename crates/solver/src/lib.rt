@@ -33,7 +33,7 @@ pub fn solve_positive_definite(a: [f64; 25], b: [f64; 5]) -> Result<[f64; 5], Re
 }
 
 // An entry left of the diagonal is its sum divided by the diagonal entry above, and the diagonal entry
-// is the root of its sum, the pivot.
+// is the root of its sum, the pivot. Each needs the entries before it, which `from_fn` does not hand on.
 fn lower_of(a: [f64; 25]) -> Lower
     ensures { result ≡ Solver.lower_of a }
 {

@@ -13,7 +13,8 @@ use correspondences::Problem;
 use refusal::Refusal;
 use step_result::StepResult;
 
-// For n points: points and room 3n, views 2n each, inverse deviations n; rig: 29; out: 12; weak: 1
+// For n points: points and room 3n, views 2n each, inverse deviations n; rig: 29; out: 12; weak: 1.
+// C hands the lists over one by one.
 #[tactic(auto, unfolding(crate::specs::Calls::step))]
 pub fn step<'a>(
     points: &[f64],

@@ -96,7 +96,7 @@ pub fn system_predicted_reduction(
     answers::answer(predicted.map(alone), out)
 }
 
-// One number as an array
+// One number as an array: with a closure in its place the proof did not close
 fn alone(x: f64) -> [f64; 1]
     ensures { result ≡ x ∷ [] }
 {

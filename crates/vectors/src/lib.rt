@@ -21,7 +21,7 @@ pub fn all_finite(values: &[f64]) -> bool
     values.iter().all(|x| number::is_finite(*x))
 }
 
-// The sum of the products, from −0
+// The sum of the products, from −0: in a loop, as by `fold` the proof did not close
 #[tactic(auto, using(crate::proofs::Products::dot_next))]
 pub fn dot<const N: usize>(x: [f64; N], y: [f64; N]) -> f64
     ensures { result ≡ Vectors.dot N x.entry y.entry }
