@@ -1,23 +1,6 @@
 // A line of stored answers: its reader, and whether an answer is the stored one.
 #![tactic(auto)]
 
-// An array of numbers, of any length: a bound by `Fn` can name a type, and not a length
-pub trait Numbers: Copy {
-    fn zeros() -> Self;
-
-    fn as_mut_slice(&mut self) -> &mut [f64];
-}
-
-impl<const N: usize> Numbers for [f64; N] {
-    fn zeros() -> Self {
-        [0.0; N]
-    }
-
-    fn as_mut_slice(&mut self) -> &mut [f64] {
-        self
-    }
-}
-
 // A line: the inputs' patterns, ` = `, and the answer
 #[derive(Clone, Copy)]
 pub struct Case<'a> {
@@ -41,10 +24,10 @@ impl<'a> Case<'a> {
     }
 
     // The inputs; none where there are more or fewer
-    pub fn inputs<I: Numbers>(&self) -> Option<I> {
+    pub fn inputs<const N: usize>(&self) -> Option<[f64; N]> {
         let mut words = self.inputs.split(' ');
-        let mut inputs = I::zeros();
-        for x in inputs.as_mut_slice() {
+        let mut inputs = [0.0; N];
+        for x in inputs.iter_mut() {
             *x = number::from_bits(pattern(words.next()?)?);
         }
         match words.next() {

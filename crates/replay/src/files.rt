@@ -1,14 +1,37 @@
 // The files of stored answers, and what is written of each.
-use cases::{Case, Numbers};
+use cases::Case;
 use std::io;
 use std::rt::Files;
 
 // A file has at most 300,000 bytes.
 pub const ROOM: usize = 300_001;
 
+// An array of numbers, of any length: a bound by `Fn` can name a type, and not a length
+pub(crate) trait Numbers: Copy {
+    fn zeros() -> Self;
+
+    fn inputs_of(case: Case) -> Option<Self>;
+
+    fn as_slice(&self) -> &[f64];
+}
+
+impl<const N: usize> Numbers for [f64; N] {
+    fn zeros() -> Self {
+        [0.0; N]
+    }
+
+    fn inputs_of(case: Case) -> Option<Self> {
+        case.inputs()
+    }
+
+    fn as_slice(&self) -> &[f64] {
+        self
+    }
+}
+
 // Makes the call of each line of a file of stored answers: it gets the inputs and room for the outputs,
 // and answers its code. Counts pass as the numbers whose patterns they are.
-pub fn replay<I: Numbers, O: Numbers, F: Fn(&I, &mut O) -> u64>(
+pub(crate) fn replay<I: Numbers, O: Numbers, F: Fn(&I, &mut O) -> u64>(
     rt: &(impl Files + Print),
     room: &mut [u8],
     file: &str,
@@ -47,7 +70,7 @@ fn lines<I: Numbers, O: Numbers, F: Fn(&I, &mut O) -> u64>(
         if differences < 3 {
             let number = i.saturating_add(1);
             print!(rt; "{name} line {number}")?;
-            difference.show(rt, outputs.as_mut_slice())?;
+            difference.show(rt, outputs.as_slice())?;
         }
         differences = differences.saturating_add(1);
     }
@@ -71,9 +94,9 @@ fn outcome<I: Numbers, O: Numbers, F: Fn(&I, &mut O) -> u64>(
     requires { F.IsAlwaysCallable call.now }
 {
     let case = Case::read(line).ok_or(Difference::OutOfForm)?;
-    let inputs = case.inputs().ok_or(Difference::OutOfForm)?;
+    let inputs = I::inputs_of(case).ok_or(Difference::OutOfForm)?;
     let code = call(&inputs, outputs);
-    if case.agrees(code, outputs.as_mut_slice()) {
+    if case.agrees(code, outputs.as_slice()) {
         Ok(())
     } else {
         Err(Difference::Code(code))

@@ -11,6 +11,21 @@ pub fn replay(rt: &(impl Files + Print), room: &mut [u8]) -> io::Result<()> {
         "damped_matrix.txt",
         |x: &[f64; 10], out: &mut [f64; 9]| { matrix_calls::damped_matrix(&x[..9], x[9], out) },
     )?;
+    replay_factors(rt, room)?;
+    files::replay(
+        rt,
+        room,
+        "solve_positive_definite.txt",
+        |x: &[f64; 30], out: &mut [f64; 5]| {
+            matrix_calls::solve_positive_definite(&x[..25], &x[25..], out)
+        },
+    )?;
+    // Two good lines, and ten with a fault each, which have to be found.
+    files::replay(rt, room, "faulty.txt", damping_diagonal)
+}
+
+// The calls of a factor
+fn replay_factors(rt: &(impl Files + Print), room: &mut [u8]) -> io::Result<()> {
     files::replay(
         rt,
         room,
@@ -36,17 +51,7 @@ pub fn replay(rt: &(impl Files + Print), room: &mut [u8]) -> io::Result<()> {
         |x: &[f64; 15], out: &mut [f64; 1]| {
             matrix_calls::reciprocal_condition_number(&x[..6], &x[6..], out)
         },
-    )?;
-    files::replay(
-        rt,
-        room,
-        "solve_positive_definite.txt",
-        |x: &[f64; 30], out: &mut [f64; 5]| {
-            matrix_calls::solve_positive_definite(&x[..25], &x[25..], out)
-        },
-    )?;
-    // Two good lines, and ten with a fault each, which have to be found.
-    files::replay(rt, room, "faulty.txt", damping_diagonal)
+    )
 }
 
 fn damping_diagonal(x: &[f64; 9], out: &mut [f64; 3]) -> u64 {
