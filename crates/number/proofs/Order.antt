@@ -25,13 +25,6 @@ not_lt x y p q = by (lt x y) refl
     by true h = sym (false_from_ne_true (le y x) (λ k. lt_irrefl x (lt_of_lt_of_le x y x (rw h tt) (rw k tt))))
     by false h = sym (is_true (le y x) (le_of_not-lt x y p q (rw h tt)))
 
-pub le_total : (x y : Float) → T (not (is_nan x)) → T (not (is_nan y)) → T (le x y) ⊎ T (le y x)
-le_total x y p q = by (lt x y) refl
-  where
-    by : (t : Bool) → lt x y ≡ t → T (le x y) ⊎ T (le y x)
-    by true h = inl (le_of_lt x y (rw h tt))
-    by false h = inr (le_of_not-lt x y p q (rw h tt))
-
 -- ---- values clear of the sign
 
 pub nonneg_not_nan : (x : Float) → T (nonneg x) → T (not (is_nan x))

@@ -28,13 +28,3 @@ nan_of_is_nan (fin s m e) h = absurd (false≢true h)
 -- a pattern whose rest, below the sign's bit, lies above an infinity's is a NaN's, and no other is
 pub nan_of_bits : (f : Format) (b : ℕ) → ones f * hid f < b % top f → of_bits f b ≡ nan
 nan_of_bits f b h = nan_of_is_nan (of_bits f b) (sym (nan_bits_is f b) ∙ nan_bits_above f b ∙ lt-ltb (ones f * hid f) (b % top f) h)
-
--- ---- the sign's bit
-
-pub sign_bit : (f : Format) (x : Float) → T (fits f x) → T (not (is_nan x)) → negative x ≡ leb (top f) (to_bits f x)
-unfolding is_nan negative neg to_bits
-sign_bit f nan p h = absurd h
-sign_bit f (inf true) p h = sym (le-leb (top f) (to_bits f (inf true)) (omega arith))
-sign_bit f (inf false) p h = let k = to_bits-lt f (inf true) (inf-fits f true) in sym (lt-leb (top f) (to_bits f (inf false)) (omega arith))
-sign_bit f (fin true m e) p h = sym (le-leb (top f) (to_bits f (fin true m e)) (omega arith))
-sign_bit f (fin false m e) p h = let k = to_bits-lt f (fin true m e) (neg-fits f (fin false m e) p) in sym (lt-leb (top f) (to_bits f (fin false m e)) (omega arith))

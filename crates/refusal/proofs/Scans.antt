@@ -22,9 +22,6 @@ first_next check n i h =
 abbrev pub Scanned : Checked → (ℕ → Checked) → ℕ → ℕ → Type 0
 Scanned whole check n i = (i ≤ n) × (whole ≡ first check i (n - i))
 
-pub begins : (check : ℕ → Checked) (n : ℕ) → Scanned (first check 0 n) check n 0
-begins check n = (omega arith, let k : n ≡ n - 0 = omega arith in ap (λ (m : ℕ). first check 0 m) k)
-
 module _ (whole : Checked) (check : ℕ → Checked) (n i : ℕ) (inv : Scanned whole check n i) where
   pub ends : n ≤ i → whole ≡ Ok tt
   ends h = inv.1 ∙ first_none check n i h
@@ -38,9 +35,6 @@ module _ (whole : Checked) (check : ℕ → Checked) (n i : ℕ) (inv : Scanned 
 -- what a test says of a check
 pub is_good : (place : Refusal) (good b : Bool) → b ≡ good → b ≡ true → unless good place ≡ Ok tt
 is_good place good b e t = rw (← e, t) refl
-
-pub is_bad : (place : Refusal) (good b : Bool) → b ≡ good → b ≡ false → unless good place ≡ Err place
-is_bad place good b e t = rw (← e, t) refl
 
 -- ---- what no refusal says
 
