@@ -33,7 +33,7 @@ eliminated s b damping inverse = record {
   point_model_reduction = point_reduction s.point_model_reduction inverse b;
   minimum_point_rcond = cond (is_zero damping) (min s.minimum_point_rcond (reciprocal_condition_number inverse b.point_hessian)) s.minimum_point_rcond;
   factored = true;
-  weak = is_zero damping && is_weak inverse b.point_hessian;
+  weak = is_zero damping && is_weak (reciprocal_condition_number inverse b.point_hessian);
 }
 
 unfoldable pub eliminate : ReducedSystem → LocalLinearization → Float → Change

@@ -51,7 +51,7 @@ fn eliminated(
     let mut minimum_point_rcond = system.minimum_point_rcond;
     if damping == 0.0 {
         let rcond = factor.reciprocal_condition_number(local.point_hessian);
-        weak = rcond <= number::EPSILON192;
+        weak = point_block::is_weak(rcond);
         minimum_point_rcond = extrema::min(minimum_point_rcond, rcond);
     }
     Change {

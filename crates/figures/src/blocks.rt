@@ -28,7 +28,7 @@ fn diagonal(rt: &impl Print, name: &str, a: f64, b: f64, c: f64, damping: f64) -
     match PointBlockFactor::new([a, 0.0, 0.0, 0.0, b, 0.0, 0.0, 0.0, c], damping) {
         Ok(lone) => {
             let rcond = number::to_bits(lone.rcond);
-            let is_weak = (damping == 0.0) & (lone.rcond <= number::EPSILON192);
+            let is_weak = damping == 0.0 && point_block::is_weak(lone.rcond);
             let weak = if is_weak { " weak" } else { "" };
             println!(rt; "{name}: rcond {rcond:016X}{weak}")
         }

@@ -26,7 +26,7 @@ impl Grade {
     {
         match PointBlockFactor::new(local.point_hessian, damping) {
             Ok(lone) if damping == 0.0 => {
-                if lone.rcond <= number::EPSILON192 {
+                if point_block::is_weak(lone.rcond) {
                     Grade::Weak
                 } else {
                     Grade::Good

@@ -72,12 +72,12 @@ module _ (d : Float) (good : T (good_damping d)) where
   abbrev lone_of : LocalLinearization → Result PointBlockFactor Refusal → Result LoneFactor Refusal
   lone_of b f = elim f [ Ok g ↦ Ok (record { factor = g; rcond = reciprocal_condition_number g.inverse b.point_hessian }) | Err r ↦ Err r ]
 
-  same_rcond : (b : LocalLinearization) → factors d b ≡ true → is_weak (inverse b) b.point_hessian ≡ small_rcond d b
+  same_rcond : (b : LocalLinearization) → factors d b ≡ true → is_weak (reciprocal_condition_number (inverse b) b.point_hessian) ≡ small_rcond d b
   unfolding lone_factor small_rcond
   same_rcond b e = rw (is_true (good_damping d) good) (by (factor b.point_hessian d) (same_factor b ∙ e))
     where
       by : (f : Result PointBlockFactor Refusal) → is_ok f ≡ true
-          → is_weak (inverse_in f) b.point_hessian ≡ le (elim (lone_of b f) [ Ok g ↦ g.rcond | Err r ↦ zero ]) epsilon192
+          → is_weak (reciprocal_condition_number (inverse_in f) b.point_hessian) ≡ le (elim (lone_of b f) [ Ok g ↦ g.rcond | Err r ↦ zero ]) epsilon192
       by (Ok f) t = refl
       by (Err r) t = absurd (true≢false (sym t))
 

@@ -27,6 +27,6 @@ reciprocal_condition_number i m =
     let denominator = infinity_norm m ⊗ infinity_norm (inverse_matrix i) in
     cond (positive_finite denominator) (recip denominator) zero
 
--- at damping zero: a block that factors with an rcond at most 192ε is weak
-abbrev pub is_weak : List Float → List Float → Bool
-is_weak i m = le (reciprocal_condition_number i m) epsilon192
+-- of a block that factors at damping zero, by its rcond: weak at 192ε and below
+abbrev pub is_weak : Float → Bool
+is_weak rcond = le rcond epsilon192

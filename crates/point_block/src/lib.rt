@@ -97,6 +97,13 @@ impl PointBlockFactor {
     }
 }
 
+// Whether a block that factors at damping zero is weak, by its rcond
+pub fn is_weak(rcond: f64) -> bool
+    ensures { result ≡ Condition.is_weak rcond }
+{
+    rcond <= number::EPSILON192
+}
+
 // The largest sum of a row's absolute values; each sum begins at −0.
 #[tactic(auto, unfolding(crate::specs::Condition::infinity_norm))]
 fn infinity_norm(m: [f64; 9]) -> f64

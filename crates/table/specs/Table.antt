@@ -12,7 +12,7 @@ use Rattle.projection.specs.declared.PinholeCamera.{PinholeCamera}
 use Rattle.point_block.specs.declared.PointBlockFactor.{PointBlockFactor}
 use Rattle.point_block.specs.declared.LoneFactor.{LoneFactor}
 use Rattle.point_block.specs.Lone.{factor, lone_factor}
-use Rattle.point_block.specs.Condition.{is_weak}
+use Rattle.point_block.specs.Condition.{reciprocal_condition_number, is_weak}
 use Rattle.pose_step.specs.PoseStep.{limit_pose_step}
 
 abbrev pub bits : ℕ → Float
@@ -32,7 +32,7 @@ rcond_of m = map_ok (λ (f : LoneFactor). f.rcond) (lone_factor m zero)
 
 -- whether the lone factor is there at damping 0, and the weak test of `add`
 abbrev pub weak_of : List Float → Bool × Result Bool Refusal
-weak_of m = (is_ok (lone_factor m zero), map_ok (λ (f : PointBlockFactor). is_weak f.inverse m) (factor m zero))
+weak_of m = (is_ok (lone_factor m zero), map_ok (λ (f : PointBlockFactor). is_weak (reciprocal_condition_number f.inverse m)) (factor m zero))
 
 -- a figure: what is asked, and the answer
 pub data Row : Type 0 where
