@@ -1,11 +1,11 @@
 -- The quadratic model of the pose's equations, in `add` and `predicted_reduction` of schur.rs.
 use Rattle.std.specs.Prelude.{ℕ, ◌+◌, ◌*◌, List, Float}
-use Rattle.number.specs.Binary64.{◌⊕◌, ◌⊗◌}
-use Rattle.number.specs.Vectors.{◌!◌, sum, tabulate}
+use Rattle.number.specs.Binary64.{◌⊕◌}
+use Rattle.number.specs.Vectors.{◌!◌, dot, tabulate}
 
 -- `.sum()` of the products
 unfoldable pub dot5 : List Float → List Float → Float
-dot5 x y = sum (tabulate 5 (λ i. x ! i ⊗ y ! i))
+dot5 x y = dot 5 x y
 
 unfoldable pub sum5 : List Float → List Float → List Float
 sum5 x y = tabulate 5 (λ i. x ! i ⊕ y ! i)
