@@ -3,13 +3,13 @@
  * Compiles as C99 and as C++.
  *
  * Numbers are binary64, and vectors and matrices flat arrays, row by row. Each array passes as a pointer and
- * then its length. An array may not overlap one that the call writes: `out`, `room`, `weak`, or a system that it
- * changes.
+ * then its length. It has to have that length in memory, and may not overlap an array that the call writes: `out`,
+ * `room`, `weak`, or a system that it changes. No call can test either.
  *
  * A call with an `out` answers 0 and writes its result there, or answers a refusal as one number and writes
  * nothing; so does a call that changes a system. The refusal's parts are below: the number of the row, and the
  * view and the index, 0 where they have no sense. An array whose length is not the one that is named beside it
- * here is row 1. No call has any other condition: every input ends in a result or in a refusal. The last call,
+ * here is row 1. No call has a condition on the numbers: every input ends in a result or in a refusal. The last call,
  * `pixel_step_write_list`, has no refusal of its own: it takes arrays of any length and answers a length.
  *
  *   row  1  a length does not fit
