@@ -14,7 +14,7 @@ use Rattle.std.proofs.lemmas.Bool.{and_parts}
 use Rattle.std.proofs.lemmas.Float.{le_left}
 use Rattle.number.specs.Vectors.{all_finite}
 use Rattle.point_damping.specs.Damping.{good_damping}
-use Rattle.pose_damping.specs.PoseDamping.{damped_hessian}
+use Rattle.pose_model.specs.PoseDamping.{damped_hessian}
 use Rattle.reduced_system.specs.Model.{new_system, with_hessian, finish_damping, is_valid}
 use Rattle.checks.specs.Checks.{max_points}
 use Rattle.list_of_adds.specs.System.{max_blocks, handed_back}

@@ -8,7 +8,7 @@ use Rattle.point_step.specs.PointStep as PointStep
 use Rattle.projection.specs.declared.Projected.{Projected}
 use Rattle.point_step.specs.declared.PointStep.{PointStep as PointStep·}
 use Rattle.flat.specs.Flat.{camera, rig, correspondence, block}
-use Rattle.flat_numbers.specs.FlatNumbers.{block_numbers}
+use Rattle.flat.specs.FlatNumbers.{block_numbers}
 use Rattle.answers.specs.Answers.{Answer, answer, long}
 
 -- residual and Jacobian

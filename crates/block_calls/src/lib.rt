@@ -39,7 +39,7 @@ pub fn linearize_point(rig: &[f64], correspondence: &[f64], out: &mut [f64]) -> 
         flat::rig(rig),
         flat::correspondence(correspondence),
     );
-    answers::answer(block.map(flat_numbers::block_numbers), out)
+    answers::answer(block.map(flat::numbers::block_numbers), out)
 }
 
 // pose_step: 5; out: step 3, damping norm

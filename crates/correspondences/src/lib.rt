@@ -85,8 +85,8 @@ pub fn project(
     match view {
         View::First => projection::pixel_projection(rig.camera1, observation, point),
         View::Second => {
-            let rotated = camera_frame::rotate(rig.pose.rotation, point);
-            let moved = camera_frame::camera_point(rotated, rig.pose.translation);
+            let rotated = projection::rotate(rig.pose.rotation, point);
+            let moved = projection::camera_point(rotated, rig.pose.translation);
             projection::pixel_projection(rig.camera2, observation, moved)
         }
     }

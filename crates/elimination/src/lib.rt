@@ -1,13 +1,16 @@
 // SPDX-FileCopyrightText: 2026 Pierre Moulon and OpenMVG Rust contributors
 // SPDX-License-Identifier: MIT OR Apache-2.0
 
-// What a block that factors adds to the equations of the pose, once its point is eliminated: `add` of
+// What a block makes of the equations of the pose, once its point is eliminated: `add` of
 // kernel/two_view/schur.rs.
 #![tactic(auto)]
+
+mod block_elimination;
 
 ghost use Rattle.std.specs.Prelude.{◌≡◌, ◌<◌};
 ghost use Rattle.elimination.specs.Elimination as Elimination;
 
+pub use block_elimination::{Change, eliminate};
 use linearization::LocalLinearization;
 use point_block::PointBlockFactor;
 use std::array;

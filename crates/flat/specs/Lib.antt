@@ -1,2 +1,3 @@
 -- Structs from flat numbers.
 pub mod Flat
+pub mod FlatNumbers

@@ -2,6 +2,8 @@
 // count 0.
 #![tactic(auto)]
 
+pub mod numbers;
+
 ghost use Rattle.std.specs.Prelude.{◌≡◌, get_or, length};
 ghost use Rattle.slices.specs.Slices as Slices;
 ghost use Rattle.flat.specs.Flat as Flat;

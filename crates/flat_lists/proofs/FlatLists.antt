@@ -22,12 +22,12 @@ use Rattle.linearization.specs.declared.linearize.LocalLinearization.{LocalLinea
 use Rattle.elimination.specs.Elimination.{reduced_hessian, reduced_gradient}
 use Rattle.reduced_system.specs.declared.ReducedSystem.{ReducedSystem}
 use Rattle.reduced_system.specs.Model.{new_system}
-use Rattle.block_elimination.specs.BlockElimination.{is_zero, not_eliminated, eliminated, eliminate}
+use Rattle.elimination.specs.BlockElimination.{is_zero, not_eliminated, eliminated, eliminate}
 use Rattle.list_of_adds.specs.System.{max_blocks, taken_with, taken_by, taken, add, handed_back}
 use Rattle.list_of_adds.specs.Calls.{Inputs, made, Call, at_damping, at_refused, added, next, results, after}
 use Rattle.answers.specs.Answers.{number, stored}
 use Rattle.flat.specs.Flat.{block, system}
-use Rattle.flat_numbers.specs.FlatNumbers.{block_numbers, system_numbers, system_counts}
+use Rattle.flat.specs.FlatNumbers.{block_numbers, system_numbers, system_counts}
 use Rattle.system_calls.specs.Calls as Calls
 use Rattle.system_calls.specs.Calls.{SystemAnswer, system_answer}
 use Rattle.flat_lists.specs.FlatLists.{called, answers, left, Reaches}

@@ -13,7 +13,7 @@ use Rattle.reduced_system.specs.declared.ReducedSystem.{ReducedSystem}
 use Rattle.slices.specs.Slices.{part}
 use Rattle.slices.proofs.Laws.{From, from_start, from_next, part_from}
 use Rattle.flat.specs.Flat.{block, system}
-use Rattle.flat_numbers.specs.FlatNumbers.{block_numbers, system_numbers, flag, system_counts}
+use Rattle.flat.specs.FlatNumbers.{block_numbers, system_numbers, flag, system_counts}
 
 -- ---- six lists one after the other
 

@@ -4,7 +4,7 @@ use Rattle.reduced_system.specs.Model.{new_system}
 use Rattle.list_of_adds.specs.Calls.{made, Call, at_damping, at_refused, results, after}
 use Rattle.answers.specs.Answers.{number}
 use Rattle.flat.specs.Flat.{system}
-use Rattle.flat_numbers.specs.FlatNumbers.{block_numbers, system_numbers, system_counts}
+use Rattle.flat.specs.FlatNumbers.{block_numbers, system_numbers, system_counts}
 use Rattle.system_calls.specs.Calls.{SystemAnswer, add}
 
 -- one call on lent memory, with the 59 numbers of its block: of a refused point each is +0

@@ -88,7 +88,7 @@ fn added_in_place(
     ensures system { result.0 ≡ System.handed_back system (System.add system local damping) }
     ensures refusal { result_err result.1 ≡ result_err (System.add system local damping) }
 {
-    let answered = in_place::add_to(&mut system, local, damping);
+    let answered = schur::add_to(&mut system, local, damping);
     (system, answered)
 }
 

@@ -3,7 +3,7 @@ use mathlib.Core.Path.{◌≡◌, refl}
 use mathlib.Core.List.{List, [], ◌∷◌, ◌++◌}
 use Prim.Native.Nat.{ℕ}
 use lib.Ieee.{Float, binary64, to_bits}
-use Rattle.hex_digits.specs.Hex.{digits}
+use Rattle.text.specs.Hex.{digits}
 use Rattle.text.specs.Text.{space}
 use Rattle.lines.specs.Lines.{bits_then}
 

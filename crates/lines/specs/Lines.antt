@@ -4,7 +4,7 @@ use Rattle.std.specs.Float.{binary64}
 use Rattle.std.specs.Float.Ieee.{to_bits}
 use Rattle.refusal.specs.Refused.{row}
 use Rattle.refusal.specs.declared.Refusal.{Refusal}
-use Rattle.hex_digits.specs.Hex.{digits}
+use Rattle.text.specs.Hex.{digits}
 use Rattle.text.specs.Text.{space, line_feed, decimal}
 
 -- a space, the bits of a number as 16 capital hex digits, and what follows them

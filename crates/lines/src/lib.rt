@@ -1,11 +1,14 @@
-// The lines of a list but its sum: document 01, "Run record and its list".
+// The lines of a list: document 01, "Run record and its list".
 #![tactic(auto)]
+
+mod sum;
 
 ghost use Rattle.lines.specs.Lines as Lines;
 ghost use Rattle.text.specs.Text as Text;
 
 use refusal::Refusal;
-use text::Writer;
+pub use sum::put_sum;
+use text::{Writer, hex_digits};
 
 // `run`, the number of points, the damping's bits
 pub fn put_run(writer: &mut Writer, n: u32, damping: f64)

@@ -25,13 +25,13 @@ use Rattle.point_damping.specs.Damping.{good_damping}
 use Rattle.point_block.specs.Lone.{factor, lone_factor}
 use Rattle.point_block.specs.declared.PointBlockFactor.{PointBlockFactor}
 use Rattle.point_block.specs.declared.LoneFactor.{LoneFactor}
-use Rattle.block_elimination.specs.declared.Change.{Change}
+use Rattle.elimination.specs.declared.block_elimination.Change.{Change}
 use Rattle.point_block.proofs.Laws.{lone_factors, rcond_nonneg}
 use Rattle.linearization.specs.declared.linearize.LocalLinearization.{LocalLinearization}
 use Rattle.reduced_system.specs.declared.ReducedSystem.{ReducedSystem}
 use Rattle.reduced_system.specs.Model.{new_system}
 use Rattle.elimination.specs.Elimination.{reduced_hessian, reduced_gradient, point_reduction}
-use Rattle.block_elimination.specs.BlockElimination.{is_zero, not_eliminated, eliminated, eliminate}
+use Rattle.elimination.specs.BlockElimination.{is_zero, not_eliminated, eliminated, eliminate}
 use Rattle.list_of_adds.specs.System.{max_blocks, raised, taken_with, taken_by, taken, add, handed_back}
 use Rattle.list_of_adds.specs.Calls.{Inputs, made, Call, at_damping, at_refused, next, results, after, after_blocks, Tally, factors, small_rcond, not_full, taken_in, tally, refusals, blocks_in, all, filter}
 use Rattle.linearization.proofs.Costs.{Costs, made_costs}

@@ -10,8 +10,8 @@ use Rattle.linearization.specs.declared.linearize.LocalLinearization.{LocalLinea
 use Rattle.gradient_norm.specs.GradientNorm.{point_gradient_norm}
 use Rattle.pose_model.specs.PoseModel.{sum5, diagonal5}
 use Rattle.reduced_system.specs.declared.ReducedSystem.{ReducedSystem}
-use Rattle.block_elimination.specs.declared.Change.{Change}
-use Rattle.block_elimination.specs.BlockElimination.{eliminate}
+use Rattle.elimination.specs.declared.block_elimination.Change.{Change}
+use Rattle.elimination.specs.BlockElimination.{eliminate}
 
 -- the most blocks that a system takes in
 abbrev pub max_blocks : ℕ

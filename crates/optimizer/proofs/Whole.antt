@@ -11,11 +11,11 @@ use Rattle.refusal.specs.declared.Refusal.TheVariants.{Lengths, NotFactored}
 use Rattle.solver.specs.Solver.{solve_positive_definite}
 use Rattle.reduced_system.specs.Model.{is_valid}
 use Rattle.pose_step.specs.PoseStep.{pose_step}
-use Rattle.step_result.specs.Results.{finished}
+use Rattle.optimizer.specs.Results.{finished}
 use Rattle.point_steps.specs.PointSteps.{Wrote}
 use Rattle.point_steps.specs.declared.Sums.{Sums}
 use Rattle.reduced_system.specs.declared.ReducedSystem.{ReducedSystem}
-use Rattle.step_result.specs.declared.StepResult.{StepResult}
+use Rattle.optimizer.specs.declared.step_result.StepResult.{StepResult}
 use Rattle.correspondences.specs.Problem.{Problem, count}
 use Rattle.checks.specs.Checks as Checks
 use Rattle.checks.proofs.Passed.{checked}

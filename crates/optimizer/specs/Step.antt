@@ -12,8 +12,8 @@ use Rattle.reduced_system.specs.Model.{is_valid}
 use Rattle.assembly.specs.Assembly.{reduced_system}
 use Rattle.pose_step.specs.PoseStep.{pose_step}
 use Rattle.point_steps.specs.PointSteps.{answer_at, steps_to, sums_to}
-use Rattle.step_result.specs.Results.{finished}
-use Rattle.step_result.specs.declared.StepResult.{StepResult}
+use Rattle.optimizer.specs.Results.{finished}
+use Rattle.optimizer.specs.declared.step_result.StepResult.{StepResult}
 
 -- ---- the step of the pose
 

@@ -4,6 +4,8 @@
 // One whole step of the two-view problem over lent memory: kernel/two_view/optimizer.rs.
 #![tactic(auto)]
 
+mod step_result;
 mod whole_step;
 
+pub use step_result::StepResult;
 pub use whole_step::step;

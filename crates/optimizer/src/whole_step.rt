@@ -5,9 +5,9 @@
 ghost use Rattle.correspondences.specs.Problem as Problems;
 ghost use Rattle.optimizer.specs.Step as Steps;
 
+use crate::StepResult;
 use correspondences::Problem;
 use refusal::Refusal;
-use step_result::StepResult;
 
 // One step. Tests rows 1 to 11; refused, it leaves the room as it was.
 pub fn step(problem: &Problem, room: &mut [f64]) -> Result<StepResult, Refusal>

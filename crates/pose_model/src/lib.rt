@@ -2,12 +2,15 @@
 // SPDX-License-Identifier: MIT OR Apache-2.0
 
 // The quadratic model of the pose's five equations, of kernel/two_view/schur.rs: what a step is predicted
-// to gain, undamped.
+// to gain, undamped; and the damping of those equations.
 #![tactic(auto)]
+
+mod damping;
 
 ghost use Rattle.std.specs.Prelude.{◌≡◌, ◌<◌};
 ghost use Rattle.pose_model.specs.PoseModel as PoseModel;
 
+pub use damping::{damped_hessian, pose_damping_norm};
 use std::array;
 
 // A sum of products, from −0: `vectors::dot` by the name of the definitions

@@ -5,9 +5,12 @@
 // `PinholeCamera` of kernel/camera.rs.
 #![tactic(auto)]
 
+mod camera_frame;
+
 ghost use Rattle.std.specs.Prelude.{◌≡◌};
 ghost use Rattle.projection.specs.Projection as Projection;
 
+pub use camera_frame::{camera_point, rotate};
 use refusal::Refusal;
 
 #[derive(Clone, Copy)]

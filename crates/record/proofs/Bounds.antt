@@ -23,14 +23,14 @@ use Rattle.checks.specs.Checks as Checks
 use Rattle.assembly.specs.Assembly.{block_at, reduced_system}
 use Rattle.checks.proofs.Passed.{checked}
 use Rattle.assembly.proofs.Blocks.{weak_at_most, costs_are_numbers}
-use Rattle.hex_digits.specs.Hex.{digits}
+use Rattle.text.specs.Hex.{digits}
 use Rattle.fields.specs.Fields.{point_fields}
 use Rattle.record_form.specs.Form as Form
 use Rattle.run.specs.Run.{column, run, damping}
 use Rattle.text.specs.Text.{space, line_feed, digit, without_zeros, decimal, pasted, Put}
 use Rattle.letters.specs.Letters.{letter}
 use Rattle.lines.specs.Lines.{bits_then, run_line, point_line, refused_line}
-use Rattle.sum_line.specs.SumLine.{validity, verdict, sum_line}
+use Rattle.lines.specs.SumLine.{validity, verdict, sum_line}
 use Rattle.record.specs.Lists.{point_lines, lines_of, check, listed, list, max_list, fits, NeverNan, Wrote}
 use Rattle.record_form.proofs.Forms.{formed, few_points}
 use Rattle.text.proofs.Puts.{put_fits, put_length}

@@ -13,7 +13,7 @@ use Rattle.run.specs.Run.{run, damping}
 use Rattle.text.specs.Text.{pasted}
 use Rattle.letters.specs.Letters.{letter}
 use Rattle.lines.specs.Lines.{run_line, point_line, refused_line}
-use Rattle.sum_line.specs.SumLine.{sum_line}
+use Rattle.lines.specs.SumLine.{sum_line}
 use Rattle.record.specs.declared.list.TooSmall.{TooSmall}
 
 -- a line for each of the first n points

@@ -99,7 +99,7 @@ fn put_lines(writer: &mut Writer, record: &WellFormedRecord, system: ReducedSyst
     let n = fields::point_fields(record.bytes);
     lines::put_run(writer, n as u32, run::damping_of(record.bytes));
     put_points(writer, record);
-    sum_line::put_sum(writer, system);
+    lines::put_sum(writer, system);
 }
 
 // A line for each point, with its index

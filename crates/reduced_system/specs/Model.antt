@@ -7,7 +7,7 @@ use Rattle.refusal.specs.declared.Refusal.{Refusal}
 use Rattle.refusal.specs.declared.Refusal.TheVariants.{Damping}
 use Rattle.point_damping.specs.Damping.{good_damping}
 use Rattle.gradient_norm.specs.GradientNorm.{scaled_gradient_inf_norm}
-use Rattle.pose_damping.specs.PoseDamping.{damped_hessian, pose_damping_norm}
+use Rattle.pose_model.specs.PoseDamping.{damped_hessian, pose_damping_norm}
 use Rattle.pose_model.specs.PoseModel.{dot5, quadratic}
 use Rattle.reduced_system.specs.declared.ReducedSystem.{ReducedSystem}
 

@@ -54,7 +54,7 @@ impl ReducedSystem {
         ensures { result ≡ Model.finish_damping self damping }
     {
         point_damping::check_damping(damping)?;
-        let hessian = pose_damping::damped_hessian(self.hessian, self.pose_diagonal, damping);
+        let hessian = pose_model::damped_hessian(self.hessian, self.pose_diagonal, damping);
         Ok(self.with_hessian(hessian))
     }
 
@@ -96,7 +96,7 @@ impl ReducedSystem {
         let undamped = self.point_model_reduction
             - pose_model::dot5(self.gradient, step)
             - 0.5 * pose_model::quadratic(self.hessian, step);
-        let damping_norm = pose_damping::pose_damping_norm(self.pose_diagonal, step);
+        let damping_norm = pose_model::pose_damping_norm(self.pose_diagonal, step);
         undamped + 0.5 * damping * (damping_norm + point_damping_norm)
     }
 

@@ -4,10 +4,13 @@
 // A block taken into the reduced system, with its point eliminated: `add` of kernel/two_view/schur.rs.
 #![tactic(auto)]
 
+mod in_place;
+
 ghost use Rattle.std.specs.Prelude.{◌≡◌, ◌<◌};
 ghost use Rattle.list_of_adds.specs.System as System;
 
-use block_elimination::Change;
+use elimination::Change;
+pub use in_place::add_to;
 use linearization::LocalLinearization;
 use reduced_system::ReducedSystem;
 use refusal::Refusal;
@@ -39,7 +42,7 @@ fn taken(system: ReducedSystem, local: LocalLinearization, damping: f64) -> Redu
     requires { System.Free system }
     ensures { result ≡ System.taken system local damping }
 {
-    let change = block_elimination::eliminate(system, local, damping);
+    let change = elimination::eliminate(system, local, damping);
     let weak = raised(change.weak, system.weak_point_count);
     taken_with(system, local, change, weak)
 }

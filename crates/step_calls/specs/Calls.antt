@@ -4,7 +4,7 @@ use Rattle.refusal.specs.Refused.{map_ok}
 use Rattle.correspondences.specs.Problem.{Problem}
 use Rattle.pose_step.specs.PoseStep as PoseStep
 use Rattle.optimizer.specs.Step as Step
-use Rattle.step_result.specs.declared.StepResult.{StepResult}
+use Rattle.optimizer.specs.declared.step_result.StepResult.{StepResult}
 use Rattle.number.specs.Vectors.{◌!◌}
 use Rattle.answers.specs.Answers.{number, lengths_code, stored, Answer, answer, long}
 

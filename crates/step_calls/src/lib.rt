@@ -10,8 +10,8 @@ ghost use Rattle.flat.specs.Flat as Flat;
 ghost use Rattle.step_calls.specs.Calls as Calls;
 
 use correspondences::Problem;
+use optimizer::StepResult;
 use refusal::Refusal;
-use step_result::StepResult;
 
 // For n points: points and room 3n, views 2n each, inverse deviations n; rig: 29; out: 12; weak: 1.
 // C hands the lists over one by one.

@@ -3,10 +3,10 @@
 ghost use Rattle.std.specs.Prelude.{◌≤◌};
 
 use correspondences::{Problem, Rig};
+use optimizer::StepResult;
 use projection::PinholeCamera;
 use refusal::Refusal;
 use std::io;
-use step_result::StepResult;
 use views::Pose;
 
 // What is varied of five points at depth 1, seen without error by two cameras that stand one apart

@@ -7,7 +7,7 @@ use Rattle.list_of_adds.specs.System as System
 use Rattle.reduced_system.specs.Model as Model
 use Rattle.reduced_system.specs.declared.ReducedSystem.{ReducedSystem}
 use Rattle.flat.specs.Flat.{block, system}
-use Rattle.flat_numbers.specs.FlatNumbers.{system_numbers, system_counts, flag}
+use Rattle.flat.specs.FlatNumbers.{system_numbers, system_counts, flag}
 use Rattle.answers.specs.Answers.{number, lengths_code, stored, Answer, answer, long}
 
 -- the number that comes back, and the lent system

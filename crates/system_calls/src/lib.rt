@@ -5,7 +5,7 @@
 ghost use Rattle.std.specs.Prelude.{[], ◌∷◌, ◌≡◌, length};
 ghost use Rattle.refusal.specs.Refused.{map_ok};
 ghost use Rattle.answers.specs.Answers as Answers;
-ghost use Rattle.flat_numbers.specs.FlatNumbers as FlatNumbers;
+ghost use Rattle.flat.specs.FlatNumbers as FlatNumbers;
 ghost use Rattle.system_calls.specs.Calls as Calls;
 
 use reduced_system::ReducedSystem;
@@ -104,7 +104,7 @@ fn alone(x: f64) -> [f64; 1]
 }
 
 // Stores the system where nothing was refused, and answers 0 or the refusal's code.
-#[tactic(auto, unfolding(flat_numbers::specs::FlatNumbers::system_counts))]
+#[tactic(auto, unfolding(flat::specs::FlatNumbers::system_counts))]
 fn answer(answered: Result<ReducedSystem, Refusal>, system: &mut [f64], counts: &mut [u16]) -> u64
     requires { (length system.old ≡ 45) × (length counts.old ≡ 3) }
     ensures number { result ≡ Answers.number answered }
@@ -115,7 +115,7 @@ fn answer(answered: Result<ReducedSystem, Refusal>, system: &mut [f64], counts: 
         Ok(next) => next,
         Err(refusal) => return answers::code(refusal),
     };
-    let values = flat_numbers::system_numbers(next);
+    let values = flat::numbers::system_numbers(next);
     answers::store(&values, system);
     counts.copy_from_slice(&[next.weak_point_count, next.block_count, flag(next.valid)]);
     0

@@ -1,2 +1,3 @@
 -- Text in a lent buffer.
 pub mod Text
+pub mod Hex

@@ -1,5 +1,7 @@
-// Text in a lent buffer.
+// Text in a lent buffer, and numbers as hexadecimal digits.
 #![tactic(auto)]
+
+pub mod hex_digits;
 
 ghost use Rattle.std.specs.Prelude.{◌++◌, ◌≡◌, ◌≤◌, drop};
 ghost use Rattle.text.specs.Text as Text;

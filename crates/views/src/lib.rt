@@ -91,8 +91,8 @@ pub fn linearize_views(rig: Rig, correspondence: Correspondence) -> Result<Linea
             index: 0,
         });
     };
-    let rotated = camera_frame::rotate(pose.rotation, point);
-    let moved = camera_frame::camera_point(rotated, pose.translation);
+    let rotated = projection::rotate(pose.rotation, point);
+    let moved = projection::camera_point(rotated, pose.translation);
     let Ok(second) = projection::pixel_projection(camera2, view2, moved) else {
         return Err(Refusal::Projection {
             view: View::Second,

@@ -1,2 +1,0 @@
--- A block's point eliminated from the system's equations: schur.rs.
-pub mod BlockElimination

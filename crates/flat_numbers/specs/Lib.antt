@@ -1,2 +1,0 @@
--- Structs as flat numbers.
-pub mod FlatNumbers

@@ -1,0 +1,27 @@
+-- What a whole step gives: document 01, "One whole step".
+use Rattle.std.specs.Prelude.{ℕ, List, pos, Float}
+use Rattle.std.specs.Result.{result_unwrap_or}
+use Rattle.std.specs.Float.{binary64}
+use Rattle.std.specs.Float.Ieee.{of_int}
+use Rattle.number.specs.Binary64.{◌⊘◌, zero}
+use Rattle.root.specs.Root.{sqrt}
+use Rattle.reduced_system.specs.Model.{gradient_inf_norm, predicted_reduction}
+use Rattle.reduced_system.specs.declared.ReducedSystem.{ReducedSystem}
+use Rattle.optimizer.specs.declared.step_result.StepResult.{StepResult}
+
+abbrev pub rms : Float → ℕ → Float
+rms squares n = sqrt (squares ⊘ of_int binary64 (pos n))
+
+-- the result, from the system, the limited step of the pose, and the squared lengths and damping norms of n point steps, summed
+unfoldable pub finished : ReducedSystem → List Float → Float → ℕ → Float → Float → StepResult
+finished system s damping n squared damping_norm = record {
+  pose_step = s;
+  cost = system.cost;
+  squared_residual = system.squared_residual;
+  gradient_norm = gradient_inf_norm system;
+  weak_point_count = system.weak_point_count;
+  minimum_point_rcond = system.minimum_point_rcond;
+  point_step_rms = rms squared n;
+  point_damping_norm = damping_norm;
+  predicted_reduction = result_unwrap_or (predicted_reduction system s damping damping_norm) zero;
+}

@@ -1,2 +1,0 @@
--- The damping of the pose's five equations: schur.rs.
-pub mod PoseDamping

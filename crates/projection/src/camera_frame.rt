@@ -1,0 +1,27 @@
+// SPDX-FileCopyrightText: 2026 Pierre Moulon and OpenMVG Rust contributors
+// SPDX-License-Identifier: MIT OR Apache-2.0
+
+// A point in the second camera's frame: turned, then moved, as in `linearize_point` of
+// kernel/two_view/schur.rs.
+
+ghost use Rattle.std.specs.Prelude.{◌≡◌};
+ghost use Rattle.projection.specs.Pose as Pose;
+
+use std::array;
+
+#[tactic(auto, unfolding(crate::specs::Pose::rotate))]
+pub fn rotate(rotation: [f64; 9], point: [f64; 3]) -> [f64; 3]
+    ensures { result ≡ Pose.rotate rotation point }
+{
+    array::from_fn(|i| {
+        let row = 3 * i;
+        rotation[row] * point[0] + rotation[row + 1] * point[1] + rotation[row + 2] * point[2]
+    })
+}
+
+#[tactic(auto, unfolding(crate::specs::Pose::camera_point))]
+pub fn camera_point(rotated: [f64; 3], translation: [f64; 3]) -> [f64; 3]
+    ensures { result ≡ Pose.camera_point rotated translation }
+{
+    array::from_fn(|i| rotated[i] + translation[i])
+}

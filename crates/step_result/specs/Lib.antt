@@ -1,2 +1,0 @@
--- What a whole step gives: optimizer.rs.
-pub mod Results

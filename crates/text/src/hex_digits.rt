@@ -1,0 +1,35 @@
+// Numbers as capital hexadecimal digits, in ASCII, and back.
+
+ghost use Rattle.std.specs.Prelude.{◌<◌, ◌≡◌};
+ghost use Rattle.text.specs.Hex as Hex;
+
+use std::array;
+
+// The lowest digit of n
+#[tactic(auto, unfolding(crate::specs::Hex::digit))]
+fn digit(n: u64) -> u8
+    ensures { result ≡ Hex.digit n }
+{
+    let d = (n % 16) as u8;
+    if d < 10 { b'0' + d } else { b'A' + (d - 10) }
+}
+
+// The sixteen digits of n, highest first
+pub fn digits(n: u64) -> [u8; 16]
+    ensures { result ≡ Hex.digits n }
+{
+    array::from_fn(|i| digit(n >> (60 - 4 * i)))
+}
+
+// What a digit stands for, and 0 for a byte that is none
+#[tactic(auto, unfolding(crate::specs::Hex::value))]
+pub fn value(digit: u8) -> u64
+    ensures value { result ≡ Hex.value digit }
+    ensures upper_bound { result < 16 }
+{
+    match digit {
+        b'0'..=b'9' => (digit - b'0') as u64,
+        b'A'..=b'F' => (digit - b'A' + 10) as u64,
+        _ => 0,
+    }
+}
