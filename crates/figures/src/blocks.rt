@@ -1,5 +1,6 @@
 // The figures of the point block's factor and of the solve.
 use point_block::PointBlockFactor;
+use program_io::show;
 use std::{array, io};
 
 pub fn print(rt: &impl Print) -> io::Result<()> {
@@ -21,13 +22,13 @@ pub fn print(rt: &impl Print) -> io::Result<()> {
 
 // The diagonal (1, 1, c), where c is given by its bits
 fn last(rt: &impl Print, name: &str, c: u64) -> io::Result<()> {
-    diagonal(rt, name, 1.0, 1.0, number::from_bits(c), 0.0)
+    diagonal(rt, name, 1.0, 1.0, numerics::from_bits(c), 0.0)
 }
 
 fn diagonal(rt: &impl Print, name: &str, a: f64, b: f64, c: f64, damping: f64) -> io::Result<()> {
     match PointBlockFactor::new([a, 0.0, 0.0, 0.0, b, 0.0, 0.0, 0.0, c], damping) {
         Ok(lone) => {
-            let rcond = number::to_bits(lone.rcond);
+            let rcond = numerics::to_bits(lone.rcond);
             let is_weak = damping == 0.0 && point_block::is_weak(lone.rcond);
             let weak = if is_weak { " weak" } else { "" };
             println!(rt; "{name}: rcond {rcond:016X}{weak}")

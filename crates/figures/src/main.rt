@@ -8,6 +8,7 @@ mod projections;
 mod roots;
 mod systems;
 
+use program_io::{show, stored_file};
 use std::io;
 
 fn main(rt: HostRuntime) -> io::Result<()> {

@@ -1,4 +1,5 @@
 // The figures of the projection.
+use program_io::show;
 use projection::{PinholeCamera, Projected};
 use refusal::Refusal;
 use std::io;
@@ -19,24 +20,24 @@ pub fn print(rt: &impl Print) -> io::Result<()> {
     plain(
         rt,
         "point (1, 0, 2^-46)",
-        [1.0, 0.0, number::from_bits(0x3D10_0000_0000_0000)],
+        [1.0, 0.0, numerics::from_bits(0x3D10_0000_0000_0000)],
     )?;
     plain(
         rt,
         "point (1, 0, next above 2^-46)",
-        [1.0, 0.0, number::from_bits(0x3D10_0000_0000_0001)],
+        [1.0, 0.0, numerics::from_bits(0x3D10_0000_0000_0001)],
     )?;
     plain(rt, "point (0, 0, 1e-200)", [0.0, 0.0, 1e-200])?;
     plain(rt, "point (0, 0, 0)", [0.0, 0.0, 0.0])?;
     plain(
         rt,
         "point (0, 0, infinity)",
-        [0.0, 0.0, number::from_bits(0x7FF0_0000_0000_0000)],
+        [0.0, 0.0, numerics::from_bits(0x7FF0_0000_0000_0000)],
     )?;
     plain(
         rt,
         "point (NaN, 0, 1)",
-        [number::from_bits(0x7FF8_0000_0000_0000), 0.0, 1.0],
+        [numerics::from_bits(0x7FF8_0000_0000_0000), 0.0, 1.0],
     )
 }
 
@@ -63,7 +64,7 @@ fn show_projected(
 ) -> io::Result<()> {
     match projected {
         Ok(p) => {
-            let [x, y] = p.residual.map(|r| number::to_bits(r));
+            let [x, y] = p.residual.map(|r| numerics::to_bits(r));
             print!(rt; "{name}: residual {x:016X} {y:016X} jacobian")?;
             show::patterns(rt, &p.jacobian)
         }

@@ -6,7 +6,7 @@ pub fn print(rt: &impl Print, text: &str) -> io::Result<()> {
     for line in text.lines() {
         match u64::from_str_radix(line, 16) {
             Ok(b) => {
-                let root = number::to_bits(root::sqrt(number::from_bits(b)));
+                let root = numerics::to_bits(root::sqrt(numerics::from_bits(b)));
                 println!(rt; "sqrt {b:016X} {root:016X}")?;
             }
             Err(_) => println!(rt; "{line} is no number in hexadecimal")?,

@@ -1,10 +1,12 @@
 // The figures of the block maker and of the system: document 01's sample, and its rows.
 use linearization::LocalLinearization;
+use linearization::views::{Correspondence, Pose, Rig};
+use problem::letters;
+use program_io::show;
 use projection::PinholeCamera;
-use reduced_system::ReducedSystem;
 use refusal::Refusal;
+use schur::reduced_system::ReducedSystem;
 use std::io;
-use views::{Correspondence, Pose, Rig};
 
 pub fn print(rt: &impl Print) -> io::Result<()> {
     sample(rt)?;
@@ -21,7 +23,7 @@ pub fn print(rt: &impl Print) -> io::Result<()> {
         rt,
         "gradient norm by an infinite diagonal",
         1.0,
-        number::from_bits(0x7FF0_0000_0000_0000),
+        numerics::from_bits(0x7FF0_0000_0000_0000),
     )?;
     gradient_norm(rt, "gradient norm by a diagonal of 4", 1.0, 4.0)?;
     gradient_norm(rt, "gradient norm of a NaN", f64::NAN, 4.0)?;
@@ -45,8 +47,8 @@ fn sample(rt: &impl Print) -> io::Result<()> {
         system = schur::add(system, block, 0.0).unwrap_or(system);
     }
     let last = system.finish_damping(0.0).unwrap_or(system);
-    let cost = number::to_bits(last.cost);
-    let squared_residual = number::to_bits(last.squared_residual);
+    let cost = numerics::to_bits(last.cost);
+    let squared_residual = numerics::to_bits(last.squared_residual);
     let weak = last.weak_point_count;
     let valid = if last.is_valid() { 'y' } else { 'n' };
     println!(rt; "sample sum {cost:016X} {squared_residual:016X} {weak} {valid}")
@@ -96,7 +98,7 @@ fn counted(rt: &impl Print, name: &str, weak: u16, blocks: u16, damping: f64) ->
 // What is predicted, +0 beside a refusal
 fn predicted(rt: &impl Print, name: &str, damping: f64) -> io::Result<()> {
     let predicted = ReducedSystem::new().predicted_reduction([0.0; 5], damping, 3.0);
-    let reduction = number::to_bits(predicted.unwrap_or(0.0));
+    let reduction = numerics::to_bits(predicted.unwrap_or(0.0));
     print!(rt; "{name}: {reduction:016X}")?;
     end(rt, predicted.err())
 }

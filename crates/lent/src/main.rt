@@ -4,14 +4,14 @@
 
 ghost use Rattle.std.specs.Prelude.{◌≡◌};
 ghost use Rattle.std.specs.Result.{result_err};
-ghost use Rattle.list_of_adds.specs.System as System;
+ghost use Rattle.schur.specs.System as System;
 
 use linearization::LocalLinearization;
+use linearization::views::{Correspondence, Pose, Rig};
 use projection::PinholeCamera;
-use reduced_system::ReducedSystem;
 use refusal::Refusal;
+use schur::reduced_system::ReducedSystem;
 use std::io;
-use views::{Correspondence, Pose, Rig};
 
 #[derive(Clone, Copy)]
 struct Both {
@@ -159,7 +159,7 @@ fn vectors(rt: &impl Print, a: ReducedSystem, b: ReducedSystem) -> io::Result<()
 }
 
 fn numbers(rt: &impl Print, name: &str, a: f64, b: f64) -> io::Result<()> {
-    pair(rt, name, number::to_bits(a), number::to_bits(b))
+    pair(rt, name, numerics::to_bits(a), numerics::to_bits(b))
 }
 
 fn pair(rt: &impl Print, name: &str, a: u64, b: u64) -> io::Result<()> {

@@ -5,12 +5,12 @@ use mathlib.Core.List.{List}
 use lib.Dec.{T}
 use lib.Ieee.{Float, binary64, lt, le}
 use lib.Ieee.Fits.{and_l, and_r}
-use Rattle.number.specs.Binary64.{◌⊕◌, ◌⊗◌, zero}
-use Rattle.number.specs.Parts.{is_finite, nonneg}
-use Rattle.number.specs.Vectors.{◌!◌}
+use Rattle.numerics.specs.Binary64.{◌⊕◌, ◌⊗◌, zero}
+use Rattle.numerics.specs.Parts.{is_finite, nonneg}
+use Rattle.numerics.specs.Vectors.{◌!◌}
 use Rattle.std.proofs.lemmas.Float.{lt_of_not-le}
-use Rattle.number.proofs.Order.{nonneg_add, nonneg_not_nan, nonneg_square}
-use Rattle.number.proofs.Monotone.{nonneg_zero, finite_not_nan, nonneg_mul_weight, nonneg_half_square}
+use Rattle.numerics.proofs.Order.{nonneg_add, nonneg_not_nan, nonneg_square}
+use Rattle.numerics.proofs.Monotone.{nonneg_zero, finite_not_nan, nonneg_mul_weight, nonneg_half_square}
 use Rattle.root.proofs.Signs.{nonneg_sum_squares}
 use Rattle.std.specs.Prelude.{Result, Ok, Err}
 use Rattle.refusal.specs.declared.View.TheVariants.{First, Second}
@@ -21,12 +21,12 @@ use Rattle.projection.specs.Projection.{all_finite, pixel_projection}
 use Rattle.projection.specs.declared.Projected.{Projected}
 use Rattle.projection.proofs.Laws.{projection_finite}
 use Rattle.linearization.specs.declared.linearize.LocalLinearization.{LocalLinearization}
-use Rattle.views.specs.declared.Pose.{Pose}
-use Rattle.views.specs.declared.Rig.{Rig}
-use Rattle.views.specs.declared.Correspondence.{Correspondence}
-use Rattle.views.specs.declared.LinearizedViews.{LinearizedViews}
-use Rattle.loss.specs.Loss.{norm, loss_cost}
-use Rattle.views.specs.Views.{good_deviation, weighted_views, seen, linearize_views}
+use Rattle.linearization.specs.declared.views.Pose.{Pose}
+use Rattle.linearization.specs.declared.views.Rig.{Rig}
+use Rattle.linearization.specs.declared.views.Correspondence.{Correspondence}
+use Rattle.linearization.specs.declared.views.LinearizedViews.{LinearizedViews}
+use Rattle.linearization.specs.Loss.{norm, loss_cost}
+use Rattle.linearization.specs.Views.{good_deviation, weighted_views, seen, linearize_views}
 use Rattle.refusal.specs.Refused.{map_ok}
 use Rattle.linearization.specs.Linearize.{no_block, block_or_zeros, sums, block, linearize_point}
 

@@ -1,19 +1,19 @@
 -- `linearize_point` of schur.rs with `Loss::L2`, the block maker of document 01: both views or their refusal, then the block.
 use Rattle.std.specs.Prelude.{List, Float, Result, Ok, Err}
-use Rattle.number.specs.Binary64.{◌⊕◌, ◌⊗◌, zero}
-use Rattle.number.specs.Vectors.{tabulate, zeros}
+use Rattle.numerics.specs.Binary64.{◌⊕◌, ◌⊗◌, zero}
+use Rattle.numerics.specs.Vectors.{tabulate, zeros}
 use Rattle.refusal.specs.Refused.{map_ok}
 use Rattle.refusal.specs.declared.Refusal.{Refusal}
 use Rattle.linearization.specs.declared.linearize.LocalLinearization.{LocalLinearization}
 use Rattle.linearization.specs.declared.terms.PointTerms.{PointTerms}
-use Rattle.views.specs.declared.Rig.{Rig}
-use Rattle.views.specs.declared.Correspondence.{Correspondence}
-use Rattle.views.specs.declared.View1.{View1}
-use Rattle.views.specs.declared.View2.{View2}
-use Rattle.views.specs.declared.LinearizedViews.{LinearizedViews}
-use Rattle.loss.specs.Loss.{norm, loss_cost}
-use Rattle.views.specs.Views.{linearize_views}
-use Rattle.accumulate.specs.Accumulate.{pose_hessian, cross_hessian, point_hessian, pose_gradient, point_gradient}
+use Rattle.linearization.specs.declared.views.Rig.{Rig}
+use Rattle.linearization.specs.declared.views.Correspondence.{Correspondence}
+use Rattle.linearization.specs.declared.views.View1.{View1}
+use Rattle.linearization.specs.declared.views.View2.{View2}
+use Rattle.linearization.specs.declared.views.LinearizedViews.{LinearizedViews}
+use Rattle.linearization.specs.Loss.{norm, loss_cost}
+use Rattle.linearization.specs.Views.{linearize_views}
+use Rattle.linearization.specs.Accumulate.{pose_hessian, cross_hessian, point_hessian, pose_gradient, point_gradient}
 
 -- +0 everywhere: what stands for the block of a refused point
 unfoldable pub no_block : LocalLinearization

@@ -5,8 +5,12 @@
 // of a point.
 #![tactic(auto)]
 
+pub mod accumulate;
+pub mod jacobians;
 mod linearize;
+pub mod loss;
 mod terms;
+pub mod views;
 
 pub use linearize::{LocalLinearization, NO_BLOCK, linearize_point};
 pub use terms::{PointTerms, point_terms};

@@ -5,10 +5,10 @@
 ghost use Rattle.std.specs.Prelude.{◌≡◌};
 ghost use Rattle.linearization.specs.Linearize as Linearize;
 
-use crate::terms;
 use crate::terms::PointTerms;
+use crate::views::{Correspondence, LinearizedViews, Rig};
+use crate::{accumulate, loss, terms, views};
 use refusal::Refusal;
-use views::{Correspondence, LinearizedViews, Rig};
 
 // A point's block: 5 by 5, 5 by 3 and 3 by 3, row by row, with its gradients and its cost
 #[derive(Clone, Copy)]

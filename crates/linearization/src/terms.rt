@@ -8,8 +8,9 @@ ghost use Rattle.refusal.specs.Refused.{map_ok};
 ghost use Rattle.linearization.specs.Linearize as Linearize;
 
 use crate::linearize::LocalLinearization;
+use crate::views::{Correspondence, Rig, View1, View2};
+use crate::{accumulate, views};
 use refusal::Refusal;
-use views::{Correspondence, Rig, View1, View2};
 
 #[derive(Clone, Copy)]
 pub struct PointTerms {

@@ -1,6 +1,8 @@
 // Reads a run record from standard input and prints its list.
 #![tactic(auto)]
 
+use program_io::stored_file;
+use run_list::record;
 use std::io;
 
 fn main(rt: HostRuntime) -> io::Result<()> {

@@ -9,18 +9,18 @@ use Rattle.refusal.specs.First.{Checked, unless}
 use Rattle.refusal.specs.declared.Refusal.{Refusal}
 use Rattle.refusal.specs.declared.Refusal.TheVariants.{Lengths, NotFactored}
 use Rattle.solver.specs.Solver.{solve_positive_definite}
-use Rattle.reduced_system.specs.Model.{is_valid}
-use Rattle.pose_step.specs.PoseStep.{pose_step}
+use Rattle.schur.specs.Model.{is_valid}
+use Rattle.optimizer.specs.PoseStep.{pose_step}
 use Rattle.optimizer.specs.Results.{finished}
-use Rattle.point_steps.specs.PointSteps.{Wrote}
-use Rattle.point_steps.specs.declared.Sums.{Sums}
-use Rattle.reduced_system.specs.declared.ReducedSystem.{ReducedSystem}
+use Rattle.optimizer.specs.PointSteps.{Wrote}
+use Rattle.optimizer.specs.declared.point_steps.Sums.{Sums}
+use Rattle.schur.specs.declared.reduced_system.ReducedSystem.{ReducedSystem}
 use Rattle.optimizer.specs.declared.step_result.StepResult.{StepResult}
-use Rattle.correspondences.specs.Problem.{Problem, count}
-use Rattle.checks.specs.Checks as Checks
-use Rattle.checks.proofs.Passed.{checked}
-use Rattle.assembly.specs.Assembly.{reduced_system, reduced}
-use Rattle.point_steps.proofs.PointSteps.{no_step_refused}
+use Rattle.problem.specs.Problem.{Problem, count}
+use Rattle.problem.specs.Checks as Checks
+use Rattle.problem.proofs.Passed.{checked}
+use Rattle.optimizer.specs.Assembly.{reduced_system, reduced}
+use Rattle.optimizer.proofs.PointStepsLaws.{no_step_refused}
 use Rattle.optimizer.specs.Step.{pose_step_of, stepped, solved_step, check, step, written, Done}
 
 -- ---- row 1 with the room: the points' length decides where the two agree, and one of them is wrong where they do not

@@ -3,10 +3,10 @@ use Rattle.std.specs.Prelude.{ℕ, List, pos, Float}
 use Rattle.std.specs.Result.{result_unwrap_or}
 use Rattle.std.specs.Float.{binary64}
 use Rattle.std.specs.Float.Ieee.{of_int}
-use Rattle.number.specs.Binary64.{◌⊘◌, zero}
+use Rattle.numerics.specs.Binary64.{◌⊘◌, zero}
 use Rattle.root.specs.Root.{sqrt}
-use Rattle.reduced_system.specs.Model.{gradient_inf_norm, predicted_reduction}
-use Rattle.reduced_system.specs.declared.ReducedSystem.{ReducedSystem}
+use Rattle.schur.specs.Model.{gradient_inf_norm, predicted_reduction}
+use Rattle.schur.specs.declared.reduced_system.ReducedSystem.{ReducedSystem}
 use Rattle.optimizer.specs.declared.step_result.StepResult.{StepResult}
 
 abbrev pub rms : Float → ℕ → Float

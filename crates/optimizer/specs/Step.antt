@@ -1,17 +1,17 @@
 -- `refine_impl` of optimizer.rs from `reduced_system` to `predicted_reduction`, once: document 01, "One whole step".
 use Rattle.std.specs.Prelude.{ℕ, ◌*◌, ◌<◌, ◌≡◌, true, cond, List, eqb, length, Float, Result, Ok, Err, is_ok}
 use Rattle.std.specs.Result.{result_and, result_unwrap_or}
-use Rattle.number.specs.Vectors.{zeros}
+use Rattle.numerics.specs.Vectors.{zeros}
 use Rattle.refusal.specs.First.{Checked, unless}
 use Rattle.refusal.specs.declared.Refusal.{Refusal}
 use Rattle.refusal.specs.declared.Refusal.TheVariants.{Lengths, NotFactored}
-use Rattle.correspondences.specs.Problem.{Problem, count}
-use Rattle.checks.specs.Checks as Checks
+use Rattle.problem.specs.Problem.{Problem, count}
+use Rattle.problem.specs.Checks as Checks
 use Rattle.solver.specs.Solver.{solve_positive_definite}
-use Rattle.reduced_system.specs.Model.{is_valid}
-use Rattle.assembly.specs.Assembly.{reduced_system}
-use Rattle.pose_step.specs.PoseStep.{pose_step}
-use Rattle.point_steps.specs.PointSteps.{answer_at, steps_to, sums_to}
+use Rattle.schur.specs.Model.{is_valid}
+use Rattle.optimizer.specs.Assembly.{reduced_system}
+use Rattle.optimizer.specs.PoseStep.{pose_step}
+use Rattle.optimizer.specs.PointSteps.{answer_at, steps_to, sums_to}
 use Rattle.optimizer.specs.Results.{finished}
 use Rattle.optimizer.specs.declared.step_result.StepResult.{StepResult}
 

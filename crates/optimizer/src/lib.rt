@@ -4,6 +4,9 @@
 // One whole step of the two-view problem over lent memory: kernel/two_view/optimizer.rs.
 #![tactic(auto)]
 
+pub mod assembly;
+pub mod point_steps;
+pub mod pose_step;
 mod step_result;
 mod whole_step;
 

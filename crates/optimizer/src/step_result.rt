@@ -6,7 +6,7 @@
 ghost use Rattle.std.specs.Prelude.{◌≡◌};
 ghost use Rattle.optimizer.specs.Results as Results;
 
-use reduced_system::ReducedSystem;
+use schur::reduced_system::ReducedSystem;
 
 #[derive(Clone, Copy)]
 pub struct StepResult {

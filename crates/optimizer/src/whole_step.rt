@@ -2,11 +2,11 @@
 // SPDX-License-Identifier: MIT OR Apache-2.0
 
 // The whole step: checks, reduced system, solve, point steps, predicted reduction.
-ghost use Rattle.correspondences.specs.Problem as Problems;
+ghost use Rattle.problem.specs.Problem as Problems;
 ghost use Rattle.optimizer.specs.Step as Steps;
 
-use crate::StepResult;
-use correspondences::Problem;
+use crate::{StepResult, assembly, point_steps, pose_step};
+use problem::correspondences::Problem;
 use refusal::Refusal;
 
 // One step. Tests rows 1 to 11; refused, it leaves the room as it was.

@@ -1,6 +1,8 @@
 // The block of one point, and how the point moves. A block is 59 numbers.
-ghost use Rattle.answers.specs.Answers as Answers;
-ghost use Rattle.block_calls.specs.Calls as Calls;
+ghost use Rattle.c_calls.specs.Answers as Answers;
+ghost use Rattle.c_calls.specs.BlockCallsCalls as Calls;
+
+use c_calls::block_calls;
 
 // rig: 29; correspondence: point, view 1, view 2, inverse deviation, 8; out: a block
 #[unsafe(no_mangle)]

@@ -2,10 +2,12 @@
 ghost use Rattle.std.specs.Prelude.{◌≡◌};
 ghost use Rattle.std.specs.Float.Ieee as Ieee;
 ghost use Rattle.std.specs.Float.{binary64};
-ghost use Rattle.number.specs.Binary64 as Binary64;
-ghost use Rattle.number.specs.Parts as Parts;
-ghost use Rattle.extrema.specs.Extrema as Extrema;
+ghost use Rattle.numerics.specs.Binary64 as Binary64;
+ghost use Rattle.numerics.specs.Parts as Parts;
+ghost use Rattle.numerics.specs.Extrema as Extrema;
 ghost use Rattle.root.specs.Root as Root;
+
+use numerics::extrema;
 
 #[unsafe(no_mangle)]
 pub extern "C" fn pixel_step_sqrt(x: f64) -> f64
@@ -18,21 +20,21 @@ pub extern "C" fn pixel_step_sqrt(x: f64) -> f64
 pub extern "C" fn pixel_step_abs(x: f64) -> f64
     ensures { result ≡ Parts.abs x }
 {
-    number::abs(x)
+    numerics::abs(x)
 }
 
 #[unsafe(no_mangle)]
 pub extern "C" fn pixel_step_is_finite(x: f64) -> bool
     ensures { result ≡ Parts.is_finite x }
 {
-    number::is_finite(x)
+    numerics::is_finite(x)
 }
 
 #[unsafe(no_mangle)]
 pub extern "C" fn pixel_step_recip(x: f64) -> f64
     ensures { result ≡ Binary64.recip x }
 {
-    number::recip(x)
+    numerics::recip(x)
 }
 
 #[unsafe(no_mangle)]
@@ -53,12 +55,12 @@ pub extern "C" fn pixel_step_min(x: f64, y: f64) -> f64
 pub extern "C" fn pixel_step_to_bits(x: f64) -> u64
     ensures { result ≡ Ieee.to_bits binary64 x }
 {
-    number::to_bits(x)
+    numerics::to_bits(x)
 }
 
 #[unsafe(no_mangle)]
 pub extern "C" fn pixel_step_from_bits(b: u64) -> f64
     ensures { result ≡ Ieee.of_bits binary64 b }
 {
-    number::from_bits(b)
+    numerics::from_bits(b)
 }

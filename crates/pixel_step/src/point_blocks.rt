@@ -1,6 +1,8 @@
 // The 3 by 3 point block. A matrix is 9 numbers, row by row; an inverse is 6, packed.
-ghost use Rattle.answers.specs.Answers as Answers;
-ghost use Rattle.matrix_calls.specs.Calls as Calls;
+ghost use Rattle.c_calls.specs.Answers as Answers;
+ghost use Rattle.c_calls.specs.Calls as Calls;
+
+use c_calls::matrix_calls;
 
 // out: 3
 #[unsafe(no_mangle)]

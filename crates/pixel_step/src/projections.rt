@@ -1,6 +1,8 @@
 // The projection.
-ghost use Rattle.answers.specs.Answers as Answers;
-ghost use Rattle.block_calls.specs.Calls as Calls;
+ghost use Rattle.c_calls.specs.Answers as Answers;
+ghost use Rattle.c_calls.specs.BlockCallsCalls as Calls;
+
+use c_calls::block_calls;
 
 // camera: fx, fy, cx, cy, skew; observation: 2; point: 3; out: residual 2, Jacobian 6
 #[unsafe(no_mangle)]

@@ -1,6 +1,8 @@
 // The 5 by 5 solve.
-ghost use Rattle.answers.specs.Answers as Answers;
-ghost use Rattle.matrix_calls.specs.Calls as Calls;
+ghost use Rattle.c_calls.specs.Answers as Answers;
+ghost use Rattle.c_calls.specs.Calls as Calls;
+
+use c_calls::matrix_calls;
 
 // a: 25 numbers, row by row; b: 5; out: 5
 #[unsafe(no_mangle)]

@@ -1,8 +1,10 @@
 // One whole step of the two-view problem, and the limit of the pose step.
-ghost use Rattle.correspondences.specs.Problem as Problem;
-ghost use Rattle.answers.specs.Answers as Answers;
-ghost use Rattle.flat.specs.Flat as Flat;
-ghost use Rattle.step_calls.specs.Calls as Calls;
+ghost use Rattle.problem.specs.Problem as Problem;
+ghost use Rattle.c_calls.specs.Answers as Answers;
+ghost use Rattle.c_calls.specs.Flat as Flat;
+ghost use Rattle.c_calls.specs.StepCallsCalls as Calls;
+
+use c_calls::step_calls;
 
 // For n points: points and room 3n, views 2n each, inverse deviations n; rig: 29; out: 12; weak: 1
 #[unsafe(no_mangle)]

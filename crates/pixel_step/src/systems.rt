@@ -1,6 +1,8 @@
 // The reduced system: 45 numbers, and beside them the weak count, the block count and the flag.
-ghost use Rattle.answers.specs.Answers as Answers;
-ghost use Rattle.system_calls.specs.Calls as Calls;
+ghost use Rattle.c_calls.specs.Answers as Answers;
+ghost use Rattle.c_calls.specs.SystemCallsCalls as Calls;
+
+use c_calls::system_calls;
 
 #[unsafe(no_mangle)]
 pub extern "C" fn pixel_step_system_new(system: &mut [f64], counts: &mut [u16]) -> u64

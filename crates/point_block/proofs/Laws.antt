@@ -5,12 +5,12 @@ use lib.Dec.{T}
 use lib.Ieee.{Float, binary64, lt}
 use lib.Ieee.Bits.{is_true}
 use lib.Ieee.Fits.{and_l, and_r}
-use Rattle.number.specs.Binary64.{◌⊗◌, zero, recip}
-use Rattle.number.specs.Parts.{is_finite, nonneg, positive_finite}
-use Rattle.number.proofs.Order.{nonneg_above, nonneg_recip}
-use Rattle.number.proofs.Monotone.{nonneg_zero}
+use Rattle.numerics.specs.Binary64.{◌⊗◌, zero, recip}
+use Rattle.numerics.specs.Parts.{is_finite, nonneg, positive_finite}
+use Rattle.numerics.proofs.Order.{nonneg_above, nonneg_recip}
+use Rattle.numerics.proofs.Monotone.{nonneg_zero}
 use Rattle.refusal.specs.declared.Refusal.{Refusal}
-use Rattle.point_damping.specs.Damping.{good_damping}
+use Rattle.point_block.specs.Damping.{good_damping}
 use Rattle.point_block.specs.declared.PointBlockFactor.{PointBlockFactor}
 use Rattle.point_block.specs.declared.LoneFactor.{LoneFactor}
 use Rattle.point_block.specs.Condition.{infinity_norm, inverse_matrix, reciprocal_condition_number}

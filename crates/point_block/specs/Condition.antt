@@ -1,10 +1,10 @@
 -- `reciprocal_condition_number` of point_block.rs: 1 ÷ (infinity norm of the matrix × that of the inverse), or 0 if that product is not positive and finite.
 use Rattle.std.specs.Prelude.{Bool, cond, List, [], ◌∷◌, Float}
 use Rattle.std.specs.Float.Ieee.{le}
-use Rattle.number.specs.Binary64.{◌⊗◌, zero, one, epsilon192, recip}
-use Rattle.number.specs.Parts.{abs, positive_finite}
-use Rattle.number.specs.Vectors.{◌!◌, sum}
-use Rattle.extrema.specs.Extrema.{largest}
+use Rattle.numerics.specs.Binary64.{◌⊗◌, zero, one, epsilon192, recip}
+use Rattle.numerics.specs.Parts.{abs, positive_finite}
+use Rattle.numerics.specs.Vectors.{◌!◌, sum}
+use Rattle.numerics.specs.Extrema.{largest}
 use Rattle.point_block.specs.Factor.{solve}
 
 -- the sum of a row's absolute values

@@ -2,7 +2,7 @@
 use Rattle.std.specs.Prelude.{cond, List, Float, Result, Ok, Err}
 use Rattle.refusal.specs.declared.Refusal.{Refusal}
 use Rattle.refusal.specs.declared.Refusal.TheVariants.{Damping}
-use Rattle.point_damping.specs.Damping.{good_damping, damped_matrix}
+use Rattle.point_block.specs.Damping.{good_damping, damped_matrix}
 use Rattle.point_block.specs.declared.PointBlockFactor.{PointBlockFactor}
 use Rattle.point_block.specs.declared.LoneFactor.{LoneFactor}
 use Rattle.point_block.specs.Factor.{factor_damped}

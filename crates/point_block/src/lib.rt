@@ -5,11 +5,15 @@
 // nine numbers, row by row; `cholesky` has the arithmetic of the factor, `point_damping` the damping.
 #![tactic(auto)]
 
+pub mod cholesky;
+pub mod point_damping;
+
 ghost use Rattle.std.specs.Prelude.{◌≡◌};
 ghost use Rattle.point_block.specs.Condition as Condition;
 ghost use Rattle.point_block.specs.Factor as Factor;
 ghost use Rattle.point_block.specs.Lone as Lone;
 
+use numerics::extrema;
 use refusal::Refusal;
 
 // The inverse of a symmetric 3 by 3 block, packed lower triangle: 00, 10, 11, 20, 21, 22
@@ -78,8 +82,8 @@ impl PointBlockFactor {
         ensures { result ≡ Condition.reciprocal_condition_number self.inverse matrix }
     {
         let denominator = infinity_norm(matrix) * infinity_norm(self.inverse_matrix());
-        if number::positive_finite(denominator) {
-            number::recip(denominator)
+        if numerics::positive_finite(denominator) {
+            numerics::recip(denominator)
         } else {
             0.0
         }
@@ -101,7 +105,7 @@ impl PointBlockFactor {
 pub fn is_weak(rcond: f64) -> bool
     ensures { result ≡ Condition.is_weak rcond }
 {
-    rcond <= number::EPSILON192
+    rcond <= numerics::EPSILON192
 }
 
 // The largest sum of a row's absolute values; each sum begins at −0.
@@ -119,5 +123,5 @@ fn infinity_norm(m: [f64; 9]) -> f64
 fn row_norm(x: f64, y: f64, z: f64) -> f64
     ensures { result ≡ Condition.row_norm x y z }
 {
-    -0.0 + number::abs(x) + number::abs(y) + number::abs(z)
+    -0.0 + numerics::abs(x) + numerics::abs(y) + numerics::abs(z)
 }

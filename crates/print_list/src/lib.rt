@@ -1,6 +1,7 @@
 // Prints the list of a run record on standard output.
 #![tactic(auto)]
 
+use run_list::record;
 use std::io;
 
 pub fn of(rt: &impl Print, record: &[u8]) -> io::Result<()> {

@@ -10,10 +10,10 @@ use lib.Ieee.Bits.{is_true}
 use lib.Ieee.Fits.{and_l, and_r}
 use Rattle.std.specs.Prelude.{Err}
 use Rattle.refusal.specs.declared.Refusal.TheVariants.{LoneProjection}
-use Rattle.number.specs.Binary64.{◌⊕◌, ◌⊗◌}
-use Rattle.number.specs.Parts.{is_finite}
-use Rattle.number.specs.Vectors.{◌!◌}
-use Rattle.number.proofs.Finite.{finite_add, finite_mul}
+use Rattle.numerics.specs.Binary64.{◌⊕◌, ◌⊗◌}
+use Rattle.numerics.specs.Parts.{is_finite}
+use Rattle.numerics.specs.Vectors.{◌!◌}
+use Rattle.numerics.proofs.Finite.{finite_add, finite_mul}
 use Rattle.projection.specs.declared.PinholeCamera.{PinholeCamera}
 use Rattle.projection.specs.Projection.{in_front, pixel_projection}
 use Rattle.projection.specs.Pose.{rotate, camera_point, NotProjectable}

@@ -1,8 +1,8 @@
 -- A point in the second camera's frame: turned by the rows of the rotation, then moved by the translation, as `linearize_point` of schur.rs does.
 use Rattle.std.specs.Prelude.{◌≡◌, false, List, [], ◌∷◌, ℕ, ◌<◌, Float, Err}
-use Rattle.number.specs.Binary64.{◌⊕◌, ◌⊗◌}
-use Rattle.number.specs.Parts.{is_finite}
-use Rattle.number.specs.Vectors.{◌!◌}
+use Rattle.numerics.specs.Binary64.{◌⊕◌, ◌⊗◌}
+use Rattle.numerics.specs.Parts.{is_finite}
+use Rattle.numerics.specs.Vectors.{◌!◌}
 use Rattle.refusal.specs.declared.Refusal.TheVariants.{LoneProjection}
 use Rattle.projection.specs.declared.PinholeCamera.{PinholeCamera}
 use Rattle.projection.specs.Projection.{pixel_projection}

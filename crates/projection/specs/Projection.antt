@@ -1,10 +1,10 @@
 -- `pixel_projection` of projection.rs, operation by operation in the Rust's order and association.
 use Rattle.std.specs.Prelude.{Bool, not, ◌&&◌, cond, List, [], ◌∷◌, Float, Result, Ok, Err}
 use Rattle.std.specs.Float.Ieee.{neg, le}
-use Rattle.number.specs.Binary64.{◌⊕◌, ◌⊖◌, ◌⊗◌, zero, epsilon64, recip}
-use Rattle.number.specs.Parts.{is_finite, abs}
-use Rattle.number.specs.Vectors.{◌!◌}
-use Rattle.extrema.specs.Extrema.{largest}
+use Rattle.numerics.specs.Binary64.{◌⊕◌, ◌⊖◌, ◌⊗◌, zero, epsilon64, recip}
+use Rattle.numerics.specs.Parts.{is_finite, abs}
+use Rattle.numerics.specs.Vectors.{◌!◌}
+use Rattle.numerics.specs.Extrema.{largest}
 use Rattle.refusal.specs.declared.Refusal.{Refusal}
 use Rattle.refusal.specs.declared.Refusal.TheVariants.{LoneProjection}
 use Rattle.projection.specs.declared.PinholeCamera.{PinholeCamera}

@@ -11,6 +11,7 @@ ghost use Rattle.std.specs.Prelude.{◌≡◌};
 ghost use Rattle.projection.specs.Projection as Projection;
 
 pub use camera_frame::{camera_point, rotate};
+use numerics::extrema;
 use refusal::Refusal;
 
 #[derive(Clone, Copy)]
@@ -52,21 +53,21 @@ pub fn pixel_projection(
 fn in_front(point: [f64; 3]) -> bool
     ensures { result ≡ Projection.in_front point }
 {
-    let finite = number::is_finite(point[0])
-        & number::is_finite(point[1])
-        & number::is_finite(point[2]);
-    let x = number::abs(point[0]);
-    let y = number::abs(point[1]);
-    let z = number::abs(point[2]);
+    let finite = numerics::is_finite(point[0])
+        & numerics::is_finite(point[1])
+        & numerics::is_finite(point[2]);
+    let x = numerics::abs(point[0]);
+    let y = numerics::abs(point[1]);
+    let z = numerics::abs(point[2]);
     let scale = extrema::largest([x, y, z]);
-    finite & !(point[2] <= number::EPSILON64 * scale)
+    finite & !(point[2] <= numerics::EPSILON64 * scale)
 }
 
 #[tactic(auto, unfolding(crate::specs::Projection::linearized))]
 fn linearized(camera: PinholeCamera, observation: [f64; 2], point: [f64; 3]) -> Projected
     ensures { result ≡ Projection.linearized camera observation point }
 {
-    let inverse_depth = number::recip(point[2]);
+    let inverse_depth = numerics::recip(point[2]);
     let inverse_depth_squared = inverse_depth * inverse_depth;
     let x_numerator = camera.fx * point[0] + camera.skew * point[1];
     Projected {
@@ -92,12 +93,12 @@ fn all_finite(projected: Projected) -> bool
 {
     let r = projected.residual;
     let j = projected.jacobian;
-    number::is_finite(r[0])
-        & number::is_finite(r[1])
-        & number::is_finite(j[0])
-        & number::is_finite(j[1])
-        & number::is_finite(j[2])
-        & number::is_finite(j[3])
-        & number::is_finite(j[4])
-        & number::is_finite(j[5])
+    numerics::is_finite(r[0])
+        & numerics::is_finite(r[1])
+        & numerics::is_finite(j[0])
+        & numerics::is_finite(j[1])
+        & numerics::is_finite(j[2])
+        & numerics::is_finite(j[3])
+        & numerics::is_finite(j[4])
+        & numerics::is_finite(j[5])
 }

@@ -1,5 +1,6 @@
 // The files of stored answers, and what is written of each.
-use cases::Case;
+use program_io::cases::Case;
+use program_io::stored_file;
 use std::io;
 use std::rt::Files;
 
@@ -109,7 +110,7 @@ impl Difference {
             Difference::OutOfForm => println!(rt; " is out of form"),
             Difference::Code(code) => {
                 print!(rt; " gave {code}")?;
-                show::patterns(rt, outputs)
+                program_io::show::patterns(rt, outputs)
             }
         }
     }
@@ -127,5 +128,5 @@ pub fn give(value: f64, outputs: &mut [f64; 1]) -> u64 {
 
 // A count as a number
 pub fn pattern(count: u16) -> f64 {
-    number::from_bits(u64::from(count))
+    numerics::from_bits(u64::from(count))
 }

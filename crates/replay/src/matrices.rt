@@ -1,5 +1,6 @@
 // The calls of `matrix_calls`.
 use crate::files;
+use c_calls::matrix_calls;
 use std::io;
 use std::rt::Files;
 

@@ -1,5 +1,6 @@
 // The calls of `number`, `extrema` and `root`.
 use crate::files::{self, give};
+use numerics::extrema;
 use std::io;
 use std::rt::Files;
 
@@ -8,18 +9,18 @@ pub fn replay(rt: &(impl Files + Print), room: &mut [u8]) -> io::Result<()> {
         give(root::sqrt(x[0]), out)
     })?;
     files::replay(rt, room, "abs.txt", |x: &[f64; 1], out: &mut [f64; 1]| {
-        give(number::abs(x[0]), out)
+        give(numerics::abs(x[0]), out)
     })?;
     files::replay(rt, room, "recip.txt", |x: &[f64; 1], out: &mut [f64; 1]| {
-        give(number::recip(x[0]), out)
+        give(numerics::recip(x[0]), out)
     })?;
     files::replay(
         rt,
         room,
         "is_finite.txt",
         |x: &[f64; 1], out: &mut [f64; 1]| {
-            let finite = number::is_finite(x[0]);
-            give(number::from_bits(u64::from(finite)), out)
+            let finite = numerics::is_finite(x[0]);
+            give(numerics::from_bits(u64::from(finite)), out)
         },
     )?;
     files::replay(rt, room, "max.txt", |x: &[f64; 2], out: &mut [f64; 1]| {
@@ -32,7 +33,9 @@ pub fn replay(rt: &(impl Files + Print), room: &mut [u8]) -> io::Result<()> {
         rt,
         room,
         "to_bits.txt",
-        |x: &[f64; 1], out: &mut [f64; 1]| { give(number::from_bits(number::to_bits(x[0])), out) },
+        |x: &[f64; 1], out: &mut [f64; 1]| {
+            give(numerics::from_bits(numerics::to_bits(x[0])), out)
+        },
     )?;
     // The reader has called `from_bits` on each word.
     files::replay(

@@ -1,5 +1,6 @@
 // The calls of `block_calls`.
 use crate::files;
+use c_calls::block_calls;
 use std::io;
 use std::rt::Files;
 

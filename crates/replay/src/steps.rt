@@ -1,5 +1,6 @@
 // The calls of `step_calls`; the whole step has five points.
 use crate::files::{self, pattern};
+use c_calls::{slices, step_calls};
 use std::io;
 use std::rt::Files;
 

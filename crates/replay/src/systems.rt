@@ -1,5 +1,6 @@
 // The calls of `system_calls`.
 use crate::files::{self, pattern};
+use c_calls::{slices, system_calls};
 use std::io;
 use std::rt::Files;
 
@@ -85,5 +86,5 @@ impl System {
 
 // A count of the pattern of a number
 fn count(x: f64) -> u16 {
-    (number::to_bits(x) % 65536) as u16
+    (numerics::to_bits(x) % 65536) as u16
 }

@@ -2,6 +2,8 @@
 // list of the record in the file. `samples/replay` makes the files, the arguments and what is due.
 #![tactic(auto)]
 
+use program_io::stored_file;
+use run_list::record;
 use std::env::{Env, FillError};
 use std::io;
 use std::rt::Files;

@@ -10,8 +10,8 @@ use lib.Ieee.{Float, nan, inf, fin, binary64, low, size, fits, lt, of_bits, up, 
 use lib.Ieee.Digits.{size-lt, size-le, size_reaches}
 use lib.Ieee.Exact.{HasValue}
 use lib.Ieee.Positive.{first_pos}
-use Rattle.number.specs.Binary64 as Binary64
-use Rattle.number.specs.Parts.{is_finite, nonneg, magnitude}
+use Rattle.numerics.specs.Binary64 as Binary64
+use Rattle.numerics.specs.Parts.{is_finite, nonneg, magnitude}
 use Rattle.root.specs.Whole.{NearestRoot}
 use Rattle.root.specs.Root.{whole_root, nearest_root, sqrt, CorrectlyRounded}
 use native.Mathlib.Numerals.{add-one}

@@ -4,10 +4,10 @@ use mathlib.Core.Bool.{true, false}
 use lib.Dec.{T}
 use lib.Ieee.{Float, nan, inf, fin, binary64}
 use lib.Ieee.Fits.{mul-fits}
-use Rattle.number.specs.Binary64.{◌⊕◌, ◌⊗◌, neg_zero}
-use Rattle.number.specs.Parts.{is_finite, nonneg}
-use Rattle.number.proofs.Order.{nonneg_units, nonneg_add, nonneg_square}
-use Rattle.number.proofs.Monotone.{neg_zero_add, finite_not_nan}
+use Rattle.numerics.specs.Binary64.{◌⊕◌, ◌⊗◌, neg_zero}
+use Rattle.numerics.specs.Parts.{is_finite, nonneg}
+use Rattle.numerics.proofs.Order.{nonneg_units, nonneg_add, nonneg_square}
+use Rattle.numerics.proofs.Monotone.{neg_zero_add, finite_not_nan}
 use Rattle.root.specs.Root.{nearest_root, sqrt}
 
 nonneg_nearest_root : (n : ℕ) → T (nonneg (nearest_root n))

@@ -3,8 +3,8 @@ use Prim.Native.Nat.{ℕ, zero, suc, ◌+◌, ◌-◌, ◌*◌, ◌/◌, ◌^◌
 use Rattle.std.specs.Prelude.{true, false, cond, T, leb, Float}
 use Rattle.std.specs.Float.{nan, inf, fin, binary64}
 use Rattle.std.specs.Float.Ieee.{size, nearest, units, fits, lt}
-use Rattle.number.specs.Binary64 as Binary64
-use Rattle.number.specs.Parts.{is_finite, nonneg, magnitude}
+use Rattle.numerics.specs.Binary64 as Binary64
+use Rattle.numerics.specs.Parts.{is_finite, nonneg, magnitude}
 
 -- the whole part of the root of an n below 4 ^ d, digit by digit
 unfoldable pub whole_root : ℕ → ℕ → ℕ

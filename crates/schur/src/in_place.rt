@@ -5,10 +5,10 @@
 
 ghost use Rattle.std.specs.Prelude.{◌≡◌};
 ghost use Rattle.std.specs.Result.{result_err};
-ghost use Rattle.list_of_adds.specs.System as System;
+ghost use Rattle.schur.specs.System as System;
 
+use crate::reduced_system::ReducedSystem;
 use linearization::LocalLinearization;
-use reduced_system::ReducedSystem;
 use refusal::Refusal;
 
 // Takes a block in. Tests rows 3, 12, 13; refused, it leaves the system unchanged.

@@ -4,22 +4,29 @@
 // A block taken into the reduced system, with its point eliminated: `add` of kernel/two_view/schur.rs.
 #![tactic(auto)]
 
+pub mod elimination;
+pub mod gradient_norm;
 mod in_place;
+pub mod point_step;
+pub mod pose_model;
+pub mod reduced_system;
 
 ghost use Rattle.std.specs.Prelude.{◌≡◌, ◌<◌};
-ghost use Rattle.list_of_adds.specs.System as System;
+ghost use Rattle.schur.specs.System as System;
 
-use elimination::Change;
+use crate::elimination::Change;
+use crate::reduced_system::ReducedSystem;
 pub use in_place::add_to;
 use linearization::LocalLinearization;
-use reduced_system::ReducedSystem;
+use numerics::extrema;
+use point_block::point_damping;
 use refusal::Refusal;
 
 // The most blocks that a system takes in
 const MAX_BLOCKS: u16 = 65535;
 
 // Takes a block in. Tests rows 3, 12, 13.
-#[tactic(auto, unfolding(list_of_adds::specs::System::add))]
+#[tactic(auto, unfolding(crate::specs::System::add))]
 pub fn add(
     system: ReducedSystem,
     local: LocalLinearization,
@@ -37,7 +44,7 @@ pub fn add(
     Ok(taken(system, local, damping))
 }
 
-#[tactic(auto, unfolding(list_of_adds::specs::System::taken))]
+#[tactic(auto, unfolding(crate::specs::System::taken))]
 fn taken(system: ReducedSystem, local: LocalLinearization, damping: f64) -> ReducedSystem
     requires { System.Free system }
     ensures { result ≡ System.taken system local damping }
@@ -48,7 +55,7 @@ fn taken(system: ReducedSystem, local: LocalLinearization, damping: f64) -> Redu
 }
 
 // Takes in what every block brings, beside what the elimination of its point changes.
-#[tactic(auto, unfolding(list_of_adds::specs::System::taken_with))]
+#[tactic(auto, unfolding(crate::specs::System::taken_with))]
 fn taken_with(
     system: ReducedSystem,
     local: LocalLinearization,

@@ -7,8 +7,8 @@ use native.Mathlib.Numerals.{add-one}
 use lib.Dec.{eqb}
 use lib.ListN.{set}
 use lib.Ieee.{Float}
-use Rattle.number.specs.Binary64.{◌⊖◌, ◌⊘◌}
-use Rattle.number.specs.Vectors.{◌!◌, zeros}
+use Rattle.numerics.specs.Binary64.{◌⊖◌, ◌⊘◌}
+use Rattle.numerics.specs.Vectors.{◌!◌, zeros}
 use Rattle.root.specs.Root.{sqrt}
 use Rattle.solver.specs.Solver.{products, lower_of}
 use Rattle.solver.specs.declared.Lower.{Lower}

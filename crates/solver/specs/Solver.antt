@@ -2,9 +2,9 @@
 use Rattle.std.specs.Prelude.{ℕ, ◌+◌, ◌*◌, fold, Bool, not, ◌&&◌, cond, List, [], ◌∷◌, Float, Result, Ok, Err}
 use Rattle.std.specs.List.{range_with_len}
 use Rattle.std.specs.Float.Ieee.{le}
-use Rattle.number.specs.Binary64.{◌⊕◌, ◌⊖◌, ◌⊗◌, ◌⊘◌, zero, neg_zero}
+use Rattle.numerics.specs.Binary64.{◌⊕◌, ◌⊖◌, ◌⊗◌, ◌⊘◌, zero, neg_zero}
 use Rattle.root.specs.Root.{sqrt}
-use Rattle.number.specs.Vectors.{◌!◌, sum, all_finite}
+use Rattle.numerics.specs.Vectors.{◌!◌, sum, all_finite}
 use Rattle.refusal.specs.declared.Refusal.{Refusal}
 use Rattle.refusal.specs.declared.Refusal.TheVariants.{NotSolved}
 use Rattle.solver.specs.declared.Lower.{Lower}

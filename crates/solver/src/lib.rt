@@ -7,6 +7,7 @@
 ghost use Rattle.std.specs.Prelude.{◌≡◌, ◌<◌, ◌≤◌};
 ghost use Rattle.solver.specs.Solver as Solver;
 
+use numerics::vectors;
 use refusal::Refusal;
 
 // The lower triangle, row by row, and the sums that its entries were made from. What lies right of the

@@ -2,12 +2,13 @@
 // each other met at once, where the earlier one is given.
 ghost use Rattle.std.specs.Prelude.{◌≤◌};
 
-use correspondences::{Problem, Rig};
-use optimizer::StepResult;
+use linearization::views::Pose;
+use optimizer::{StepResult, pose_step};
+use problem::correspondences::{Problem, Rig};
+use program_io::show;
 use projection::PinholeCamera;
 use refusal::Refusal;
 use std::io;
-use views::Pose;
 
 // What is varied of five points at depth 1, seen without error by two cameras that stand one apart
 #[derive(Clone, Copy)]
@@ -55,7 +56,7 @@ fn values(rt: &impl Print) -> io::Result<()> {
     stepped(rt, "step, rows 3 and 4", p, 5, 10)?;
     p.damping = 1.0;
     stepped(rt, "step, inverse deviation 0 at index 2", p, 5, 10)?;
-    p.baseline = number::EPSILON64;
+    p.baseline = numerics::EPSILON64;
     stepped(rt, "step, rows 4 and 5", p, 5, 10)?;
     p.deviation = 1.0;
     stepped(rt, "step, baseline 2^-46", p, 5, 10)?;
@@ -70,7 +71,7 @@ fn values(rt: &impl Print) -> io::Result<()> {
 fn seen(rt: &impl Print) -> io::Result<()> {
     let mut p = sound();
     stepped(rt, "step, 4 points", p, 4, 8)?;
-    p.seen = number::from_bits(0x7FF0_0000_0000_0000);
+    p.seen = numerics::from_bits(0x7FF0_0000_0000_0000);
     stepped(rt, "step, rows 7 and 8", p, 4, 8)?;
     stepped(rt, "step, infinity in view 2 at index 3", p, 5, 10)?;
     p.depth = 0.0;

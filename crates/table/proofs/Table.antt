@@ -1,16 +1,16 @@
 -- Every figure that document 01 marks ● is what the definitions give: antt computes each row. Assumes nothing.
 use mathlib.Core.Path.{refl}
 use lib.Ieee.{neg, add, sub, mul, div, lt, eq, le, is_nan, of_bits, size, units}
-use Rattle.number.specs.Parts.{negative, is_finite, abs, magnitude}
-use Rattle.extrema.specs.Extrema.{max}
+use Rattle.numerics.specs.Parts.{negative, is_finite, abs, magnitude}
+use Rattle.numerics.specs.Extrema.{max}
 use Rattle.root.specs.Root.{sqrt}
 use Rattle.projection.specs.Projection.{in_front, linearized, all_finite, pixel_projection}
-use Rattle.cholesky.specs.Cholesky.{scale_of, cholesky_of, good_pivots, inverse_of, invert}
-use Rattle.point_damping.specs.Damping.{good_damping, largest_diagonal, floored, damping_diagonal, added_diagonal, damped_matrix}
+use Rattle.point_block.specs.Cholesky.{scale_of, cholesky_of, good_pivots, inverse_of, invert}
+use Rattle.point_block.specs.Damping.{good_damping, largest_diagonal, floored, damping_diagonal, added_diagonal, damped_matrix}
 use Rattle.point_block.specs.Factor.{factor_damped}
 use Rattle.point_block.specs.Condition.{infinity_norm, inverse_matrix, reciprocal_condition_number}
 use Rattle.point_block.specs.Lone as Lone
-use Rattle.pose_step.specs.PoseStep.{limit_pose_step}
+use Rattle.optimizer.specs.PoseStep.{limit_pose_step}
 use Rattle.table.specs.Table.{Every, done, ◌and◌, table}
 
 pub every_row_holds : Every table

@@ -2,7 +2,7 @@
 use Rattle.std.specs.Prelude.{ℕ, ◌≡◌, Bool, true, false, List, [], ◌∷◌, Float, Result, Ok, Err, is_ok}
 use Rattle.std.specs.Float.{binary64}
 use Rattle.std.specs.Float.Ieee.{of_bits}
-use Rattle.number.specs.Binary64.{zero, neg_zero, half, one}
+use Rattle.numerics.specs.Binary64.{zero, neg_zero, half, one}
 use Rattle.root.specs.Root.{sqrt}
 use Rattle.refusal.specs.Refused.{map_ok}
 use Rattle.refusal.specs.declared.Refusal.{Refusal}
@@ -13,7 +13,7 @@ use Rattle.point_block.specs.declared.PointBlockFactor.{PointBlockFactor}
 use Rattle.point_block.specs.declared.LoneFactor.{LoneFactor}
 use Rattle.point_block.specs.Lone.{factor, lone_factor}
 use Rattle.point_block.specs.Condition.{reciprocal_condition_number, is_weak}
-use Rattle.pose_step.specs.PoseStep.{limit_pose_step}
+use Rattle.optimizer.specs.PoseStep.{limit_pose_step}
 
 abbrev pub bits : ℕ → Float
 bits = of_bits binary64

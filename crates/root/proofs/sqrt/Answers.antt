@@ -9,10 +9,10 @@ use lib.Dec.{T, leb, ltb, eqb, nleb→lt}
 use lib.Ieee.{Float, nan, inf, fin, binary64, fits, is_nan, lt, odd, of_bits, of_fields, to_bits, nan_bits, up, down}
 use lib.Ieee.Bits.{of_bits-to_bits, nan_bits_is}
 use lib.Ieee.Fits.{up_pos}
-use Rattle.number.specs.Binary64 as Binary64
-use Rattle.number.specs.Parts.{is_finite}
-use Rattle.number.proofs.Specials.{nan_of_pattern}
-use Rattle.number.proofs.Monotone.{finite_not_nan}
+use Rattle.numerics.specs.Binary64 as Binary64
+use Rattle.numerics.specs.Parts.{is_finite}
+use Rattle.numerics.proofs.Specials.{nan_of_pattern}
+use Rattle.numerics.proofs.Monotone.{finite_not_nan}
 use Rattle.root.specs.Root.{sqrt, CorrectlyRounded}
 use Rattle.root.proofs.Patterns.{plain_finite}
 use Rattle.root.proofs.Correct.{sqrt_correct}

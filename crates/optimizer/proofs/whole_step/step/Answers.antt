@@ -1,5 +1,5 @@
 use Rattle.std.proofs.Common.{rules, sym, ◌∙◌, arith}
-use Rattle.correspondences.specs.Problem.{of}
+use Rattle.problem.specs.Problem.{of}
 use Rattle.optimizer.proofs.Whole.{wrong_room, checks_refused, fits, not_valid, not_solved, solved}
 use Rattle.optimizer.proofs.whole_step.step.Goals as goal
 

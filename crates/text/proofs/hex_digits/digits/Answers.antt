@@ -1,5 +1,5 @@
 use Rattle.std.proofs.Common.{◌≡◌, ◌-◌, ◌*◌, ◌/◌, ◌^◌, arith, rules}
-use Rattle.number.proofs.FromFn.{from_fn_maps}
+use Rattle.numerics.proofs.FromFn.{from_fn_maps}
 use Rattle.text.specs.Hex.{digit}
 use Rattle.text.proofs.hex_digits.digits.Goals as goal
 

@@ -1,2 +1,0 @@
--- The sums of a block: schur.rs.
-pub mod Accumulate

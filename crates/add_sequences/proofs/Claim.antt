@@ -1,0 +1,379 @@
+-- Demand 3, proved: one induction over the calls. Assumes nothing.
+use mathlib.Core.Path.{◌≡◌, refl, sym, ap, ◌∙◌, subst}
+use mathlib.Core.Bool.{Bool, true, false, not, ◌&&◌, ◌||◌, cond, and-true, and_assoc, true≢false}
+use mathlib.Core.List.{List, [], ◌∷◌, ◌++◌, map}
+use Prim.Native.Nat.{ℕ, suc, ◌+◌, ◌≤◌}
+use native.Mathlib.Omega.{arith}
+use native.Mathlib.Nat.{le_trans as le-trans·, lt_of_le_of_lt, zero-add}
+use lib.Dec.{T, leb, leb→le, le→leb, ltb→lt, lt→ltb}
+use lib.ListN.{length}
+use lib.Ieee.{Float, fits, binary64, le, of_bits}
+use lib.Ieee.Bits.{is_true}
+use lib.Ieee.Fits.{add-fits}
+use Rattle.numerics.specs.Binary64.{◌⊕◌, zero, epsilon192}
+use Rattle.numerics.specs.Parts.{nonneg}
+use Rattle.numerics.proofs.Order.{le_refl, nonneg_not_nan, nonneg_add}
+use Rattle.numerics.proofs.Monotone.{le_add, le_trans, zero-le, nonneg_zero}
+use Rattle.numerics.specs.Extrema.{min}
+use Rattle.numerics.proofs.Laws.{min_le_left, nonneg_min}
+use Rattle.std.specs.Prelude.{Result, Ok, Err, Some, None, is_ok}
+use Rattle.std.specs.Result.{result_err}
+use Rattle.refusal.specs.declared.Refusal.{Refusal}
+use Rattle.refusal.specs.declared.Refusal.TheVariants.{Damping, Full}
+use Rattle.point_block.specs.Condition.{reciprocal_condition_number, is_weak}
+use Rattle.point_block.specs.Damping.{good_damping}
+use Rattle.point_block.specs.Lone.{factor, lone_factor}
+use Rattle.point_block.specs.declared.PointBlockFactor.{PointBlockFactor}
+use Rattle.point_block.specs.declared.LoneFactor.{LoneFactor}
+use Rattle.schur.specs.declared.elimination.block_elimination.Change.{Change}
+use Rattle.point_block.proofs.Laws.{lone_factors, rcond_nonneg}
+use Rattle.linearization.specs.declared.linearize.LocalLinearization.{LocalLinearization}
+use Rattle.schur.specs.declared.reduced_system.ReducedSystem.{ReducedSystem}
+use Rattle.schur.specs.Model.{new_system}
+use Rattle.schur.specs.Elimination.{reduced_hessian, reduced_gradient, point_reduction}
+use Rattle.schur.specs.BlockElimination.{is_zero, not_eliminated, eliminated, eliminate}
+use Rattle.schur.specs.System.{max_blocks, raised, taken_with, taken_by, taken, add, handed_back}
+use Rattle.add_sequences.specs.Calls.{Inputs, made, Call, at_damping, at_refused, next, results, after, after_blocks, Tally, factors, small_rcond, not_full, taken_in, tally, refusals, blocks_in, all, filter}
+use Rattle.linearization.proofs.Costs.{Costs, made_costs}
+use Rattle.add_sequences.specs.Claim.{CallByCall, final, SameEquations, Further, Claim}
+
+-- ---- what one call hands back
+
+abbrev Counts : ReducedSystem → Type 0
+Counts s = T (leb s.weak_point_count s.block_count)
+
+add_bad : (s : ReducedSystem) (b : LocalLinearization) (x : Float) → good_damping x ≡ false → add s b x ≡ Err Damping
+unfolding add
+add_bad s b x h = rw h refl
+
+module _ (d : Float) (good : T (good_damping d)) where
+  add_taken : (s : ReducedSystem) (b : LocalLinearization) → Counts s → not_full s.block_count ≡ true → add s b d ≡ Ok (taken s b d)
+  unfolding add
+  add_taken s b c e = rw (is_true (good_damping d) good, is_true (leb s.weak_point_count s.block_count) c, e) refl
+
+  add_full : (s : ReducedSystem) (b : LocalLinearization) → Counts s → not_full s.block_count ≡ false → add s b d ≡ Err Full
+  unfolding add
+  add_full s b c e = rw (is_true (good_damping d) good, is_true (leb s.weak_point_count s.block_count) c, e) refl
+
+  -- ---- a block taken in: whether it factors is the lone factor's answer
+
+  abbrev inverse_in : Result PointBlockFactor Refusal → List Float
+  inverse_in (Ok f) = f.inverse
+  inverse_in (Err r) = []
+
+  abbrev inverse : LocalLinearization → List Float
+  inverse b = inverse_in (factor b.point_hessian d)
+
+  same_factor : (b : LocalLinearization) → is_ok (factor b.point_hessian d) ≡ factors d b
+  unfolding factors
+  same_factor b = sym (lone_factors b.point_hessian d good)
+
+  -- the lone factor's answer, by the factor's
+  abbrev lone_of : LocalLinearization → Result PointBlockFactor Refusal → Result LoneFactor Refusal
+  lone_of b f = elim f [ Ok g ↦ Ok (record { factor = g; rcond = reciprocal_condition_number g.inverse b.point_hessian }) | Err r ↦ Err r ]
+
+  same_rcond : (b : LocalLinearization) → factors d b ≡ true → is_weak (reciprocal_condition_number (inverse b) b.point_hessian) ≡ small_rcond d b
+  unfolding lone_factor small_rcond
+  same_rcond b e = rw (is_true (good_damping d) good) (by (factor b.point_hessian d) (same_factor b ∙ e))
+    where
+      by : (f : Result PointBlockFactor Refusal) → is_ok f ≡ true
+          → is_weak (reciprocal_condition_number (inverse_in f) b.point_hessian) ≡ le (elim (lone_of b f) [ Ok g ↦ g.rcond | Err r ↦ zero ]) epsilon192
+      by (Ok f) t = refl
+      by (Err r) t = absurd (true≢false (sym t))
+
+  -- what the elimination of a block changes, by the answer on its factor
+  abbrev changed_by : Result PointBlockFactor Refusal → ReducedSystem → LocalLinearization → Change
+  changed_by r s b = elim r [ Ok f ↦ eliminated s b d f.inverse | Err e ↦ not_eliminated s (is_zero d) ]
+
+  taken_factored : (s : ReducedSystem) (b : LocalLinearization) → factors d b ≡ true → taken s b d ≡ taken_by s b (eliminated s b d (inverse b))
+  unfolding taken eliminate
+  taken_factored s b e = by (factor b.point_hessian d) (same_factor b ∙ e)
+    where
+      by : (f : Result PointBlockFactor Refusal) → is_ok f ≡ true → taken_by s b (changed_by f s b) ≡ taken_by s b (eliminated s b d (inverse_in f))
+      by (Ok f) t = refl
+      by (Err r) t = absurd (true≢false (sym t))
+
+  taken_refused : (s : ReducedSystem) (b : LocalLinearization) → factors d b ≡ false → taken s b d ≡ taken_by s b (not_eliminated s (is_zero d))
+  unfolding taken eliminate
+  taken_refused s b e = by (factor b.point_hessian d) (same_factor b ∙ e)
+    where
+      by : (f : Result PointBlockFactor Refusal) → is_ok f ≡ false → taken_by s b (changed_by f s b) ≡ taken_by s b (not_eliminated s (is_zero d))
+      by (Ok f) t = absurd (true≢false t)
+      by (Err r) t = refl
+
+  split : (s : ReducedSystem) (b : LocalLinearization) (P : ReducedSystem → Type 0) → (factors d b ≡ true → P (taken_by s b (eliminated s b d (inverse b))))
+      → (factors d b ≡ false → P (taken_by s b (not_eliminated s (is_zero d)))) → P (taken s b d)
+  split s b P f g = by (factors d b) refl
+    where
+      by : (x : Bool) → factors d b ≡ x → P (taken s b d)
+      by true e = subst P (sym (taken_factored s b e)) (f e)
+      by false e = subst P (sym (taken_refused s b e)) (g e)
+
+  module _ (s : ReducedSystem) (b : LocalLinearization) where
+    count_taken : (taken s b d).block_count ≡ suc s.block_count
+    unfolding eliminated not_eliminated taken_with
+    count_taken = split s b (λ t. t.block_count ≡ suc s.block_count) (λ e. refl) (λ e. refl)
+
+    cost_taken : (taken s b d).cost ≡ s.cost ⊕ b.cost
+    unfolding eliminated not_eliminated taken_with
+    cost_taken = split s b (λ t. t.cost ≡ s.cost ⊕ b.cost) (λ e. refl) (λ e. refl)
+
+    squared_taken : (taken s b d).squared_residual ≡ s.squared_residual ⊕ b.squared_residual
+    unfolding eliminated not_eliminated taken_with
+    squared_taken = split s b (λ t. t.squared_residual ≡ s.squared_residual ⊕ b.squared_residual) (λ e. refl) (λ e. refl)
+
+    valid_taken : (taken s b d).valid ≡ (s.valid && factors d b)
+    unfolding eliminated not_eliminated taken_with
+    valid_taken = split s b (λ t. t.valid ≡ (s.valid && factors d b)) (λ e. rw e refl) (λ e. rw e refl)
+
+    weak_taken : (taken s b d).weak_point_count ≡ raised (is_zero d && (not (factors d b) || small_rcond d b)) s.weak_point_count
+    unfolding eliminated not_eliminated taken_with
+    weak_taken =
+        split s b (λ t. t.weak_point_count ≡ raised (is_zero d && (not (factors d b) || small_rcond d b)) s.weak_point_count)
+        (λ e. ap (λ (z : Bool). raised z s.weak_point_count) (rw (e, same_rcond b e) refl))
+        (λ e. rw e (ap (λ (z : Bool). raised z s.weak_point_count) (sym (and-true (is_zero d)))))
+
+    counts_taken : Counts s → Counts (taken s b d)
+    counts_taken c =
+        rw (weak_taken, count_taken) (by (is_zero d && (not (factors d b) || small_rcond d b)) (leb→le s.weak_point_count s.block_count c))
+      where
+        by : (x : Bool) → s.weak_point_count ≤ s.block_count → T (leb (raised x s.weak_point_count) (suc s.block_count))
+        by true h = le→leb (suc s.weak_point_count) (suc s.block_count) (omega arith)
+        by false h = le→leb s.weak_point_count (suc s.block_count) (omega arith)
+
+  -- the reduced equations see a block that factors, and no other
+  module _ (s t : ReducedSystem) (b : LocalLinearization) (same : SameEquations s t) where
+    equations_factored : factors d b ≡ true → SameEquations (taken s b d) (taken t b d)
+    unfolding eliminated taken_with
+    equations_factored e = rw (taken_factored s b e, taken_factored t b e) (record {
+      hessian = ap (λ h. reduced_hessian h (inverse b) b) same.hessian;
+      gradient = ap (λ h. reduced_gradient h (inverse b) b) same.gradient;
+      reduction = ap (λ h. point_reduction h (inverse b) b) same.reduction;
+    })
+
+    equations_refused : factors d b ≡ false → SameEquations (taken s b d) t
+    unfolding not_eliminated taken_with
+    equations_refused e = rw (taken_refused s b e) (record { hessian = same.hessian; gradient = same.gradient; reduction = same.reduction })
+
+  -- ---- what further calls never do
+
+  record Sound (s : ReducedSystem) : Type 0 where
+    counts : Counts s
+    cost : T (nonneg s.cost)
+    cost_fits : T (fits binary64 s.cost)
+    squared : T (nonneg s.squared_residual)
+    squared_fits : T (fits binary64 s.squared_residual)
+    rcond : T (nonneg s.minimum_point_rcond)
+
+  further_refl : (s : ReducedSystem) → Sound s → Further s s
+  further_refl s k = record {
+    cost = le_refl s.cost (nonneg_not_nan s.cost k.cost);
+    squared = le_refl s.squared_residual (nonneg_not_nan s.squared_residual k.squared);
+    weak = le→leb s.weak_point_count s.weak_point_count (omega arith);
+    rcond = le_refl s.minimum_point_rcond (nonneg_not_nan s.minimum_point_rcond k.rcond);
+    flag = λ h. h;
+  }
+
+  further_trans : (s t u : ReducedSystem) → Further s t → Further t u → Further s u
+  further_trans s t u f g = record {
+    cost = le_trans s.cost t.cost u.cost f.cost g.cost;
+    squared = le_trans s.squared_residual t.squared_residual u.squared_residual f.squared g.squared;
+    weak = le→leb s.weak_point_count u.weak_point_count
+        (le-trans· (leb→le s.weak_point_count t.weak_point_count f.weak) (leb→le t.weak_point_count u.weak_point_count g.weak));
+    rcond = le_trans u.minimum_point_rcond t.minimum_point_rcond s.minimum_point_rcond g.rcond f.rcond;
+    flag = λ h. g.flag (f.flag h);
+  }
+
+  -- a made block's costs are numbers not below zero
+  module _ (s : ReducedSystem) (b : LocalLinearization) (k : Sound s) (cost : T (nonneg b.cost)) (squared : T (nonneg b.squared_residual)) where
+    -- the smallest rcond stays a number not below zero, and does not rise
+    rcond_taken : T (nonneg (taken s b d).minimum_point_rcond) × T (le (taken s b d).minimum_point_rcond s.minimum_point_rcond)
+    unfolding eliminated not_eliminated taken_with
+    rcond_taken =
+        split s b (λ t. T (nonneg t.minimum_point_rcond) × T (le t.minimum_point_rcond s.minimum_point_rcond))
+        (λ e. by (is_zero d) (min m (reciprocal_condition_number (inverse b) b.point_hessian))
+        (nonneg_min m (reciprocal_condition_number (inverse b) b.point_hessian) k.rcond (rcond_nonneg (inverse b) b.point_hessian))
+        (min_le_left m (reciprocal_condition_number (inverse b) b.point_hessian) (nonneg_not_nan m k.rcond)))
+        (λ e. by (is_zero d) zero (nonneg_zero binary64) (zero-le m k.rcond))
+      where
+        m : Float
+        m = s.minimum_point_rcond
+
+        by : (z : Bool) (x : Float) → T (nonneg x) → T (le x m) → T (nonneg (cond z x m)) × T (le (cond z x m) m)
+        by true x n l = (n, l)
+        by false x n l = (k.rcond, le_refl m (nonneg_not_nan m k.rcond))
+
+    sound_taken : Sound (taken s b d)
+    sound_taken = record {
+      counts = counts_taken s b k.counts;
+      cost = rw (cost_taken s b) (nonneg_add binary64 s.cost b.cost k.cost cost);
+      cost_fits = rw (cost_taken s b) (add-fits binary64 s.cost b.cost);
+      squared = rw (squared_taken s b) (nonneg_add binary64 s.squared_residual b.squared_residual k.squared squared);
+      squared_fits = rw (squared_taken s b) (add-fits binary64 s.squared_residual b.squared_residual);
+      rcond = rcond_taken.0;
+    }
+
+    further_taken : Further s (taken s b d)
+    further_taken = record {
+      cost = rw (cost_taken s b) (le_add binary64 s.cost b.cost k.cost_fits k.cost cost);
+      squared = rw (squared_taken s b) (le_add binary64 s.squared_residual b.squared_residual k.squared_fits k.squared squared);
+      weak = rw (weak_taken s b) (by (is_zero d && (not (factors d b) || small_rcond d b)));
+      rcond = rcond_taken.1;
+      flag = λ h. valid_taken s b ∙ ap (λ (x : Bool). x && factors d b) h;
+    }
+      where
+        by : (x : Bool) → T (leb s.weak_point_count (raised x s.weak_point_count))
+        by true = le→leb s.weak_point_count (suc s.weak_point_count) (omega arith)
+        by false = le→leb s.weak_point_count s.weak_point_count (omega arith)
+
+  -- ---- the calls, one by one
+
+  abbrev tally_of : ReducedSystem → Tally
+  tally_of s = record { flag = s.valid; blocks = s.block_count; weak = s.weak_point_count }
+
+  tally_taken : (s : ReducedSystem) (b : LocalLinearization) → tally_of (taken s b d) ≡ taken_in d (tally_of s) b
+  tally_taken s b = rw (valid_taken s b, count_taken s b, weak_taken s b) refl
+
+  abbrev weak_in : List LocalLinearization → ℕ
+  weak_in bs = length (filter (λ b. not (factors d b)) bs) + length (filter (λ b. factors d b && small_rcond d b) bs)
+
+  -- What calls that take in the blocks bs make of s. The equations are those of any other system that had the same and adds only the blocks that factor.
+  record From (s end : ReducedSystem) (t : Tally) (bs : List LocalLinearization) : Type 0 where
+    sound : Sound end
+    tallied : tally_of end ≡ t
+    blocks_alone : end ≡ after_blocks d s bs
+    flag : end.valid ≡ (s.valid && all (factors d) bs)
+    elimination : (u : ReducedSystem) → Counts u → T (leb u.block_count s.block_count) → SameEquations s u
+        → SameEquations end (after_blocks d u (filter (factors d) bs))
+    weak_zero : is_zero d ≡ true → end.weak_point_count ≡ s.weak_point_count + weak_in bs
+    weak_other : is_zero d ≡ false → end.weak_point_count ≡ s.weak_point_count
+    further : Further s end
+
+  from_none : (s : ReducedSystem) → Sound s → From s s (tally_of s) []
+  from_none s k = record {
+    sound = k;
+    tallied = refl;
+    blocks_alone = refl;
+    flag = sym (and-true s.valid);
+    elimination = λ u c l same. same;
+    weak_zero = λ z. omega arith;
+    weak_other = λ z. refl;
+    further = further_refl s k;
+  }
+
+  module _ (s : ReducedSystem) (i : Inputs) (k : Sound s) (free : not_full s.block_count ≡ true) where
+    abbrev b : LocalLinearization
+    b = made i
+
+    costs : Costs b
+    costs = made_costs i.rig i.correspondence
+
+    next_sound : Sound (taken s b d)
+    next_sound = sound_taken s b k costs.0 costs.1
+
+    module _ (end : ReducedSystem) (t : Tally) (bs : List LocalLinearization) (f : From (taken s b d) end t bs) where
+      from_flag : end.valid ≡ (s.valid && all (factors d) (b ∷ bs))
+      from_flag = f.flag ∙ ap (λ (x : Bool). x && all (factors d) bs) (valid_taken s b) ∙ and_assoc s.valid (factors d b) (all (factors d) bs)
+
+      from_weak : is_zero d ≡ true → end.weak_point_count ≡ s.weak_point_count + weak_in (b ∷ bs)
+      from_weak z = by (factors d b) (small_rcond d b) (f.weak_zero z ∙ ap (λ n. n + weak_in bs) (weak_taken s b ∙ rw z refl))
+        where
+          by : (x y : Bool) → end.weak_point_count ≡ raised (not x || y) s.weak_point_count + weak_in bs
+              → end.weak_point_count ≡ s.weak_point_count + (length (cond (not x) (b ∷ filter (λ b. not (factors d b)) bs) (filter (λ b. not (factors d b)) bs))
+              + length (cond (x && y) (b ∷ filter (λ b. factors d b && small_rcond d b) bs) (filter (λ b. factors d b && small_rcond d b) bs)))
+          by true true e = omega arith
+          by true false e = omega arith
+          by false y e = omega arith
+
+      from_elimination : (u : ReducedSystem) → Counts u → T (leb u.block_count s.block_count) → SameEquations s u
+          → SameEquations end (after_blocks d u (filter (factors d) (b ∷ bs)))
+      from_elimination u c l same = by (factors d b) refl
+        where
+          below : u.block_count ≤ s.block_count
+          below = leb→le u.block_count s.block_count l
+
+          u_free : not_full u.block_count ≡ true
+          u_free = is_true (not_full u.block_count) (lt→ltb u.block_count max_blocks (lt_of_le_of_lt below (ltb→lt s.block_count max_blocks (rw free tt))))
+
+          by : (x : Bool) → factors d b ≡ x → SameEquations end (after_blocks d u (cond x (b ∷ filter (factors d) bs) (filter (factors d) bs)))
+          by true e = subst (λ (a : Result ReducedSystem Refusal). SameEquations end (after_blocks d (handed_back u a) (filter (factors d) bs))) (sym (add_taken u b c u_free))
+              (f.elimination (taken u b d) (counts_taken u b c) (rw (count_taken u b, count_taken s b) (le→leb (suc u.block_count) (suc s.block_count) (omega (arith, below))))
+              (equations_factored s u b same e))
+          by false e = f.elimination u c (rw (count_taken s b) (le→leb u.block_count (suc s.block_count) (omega (arith, below)))) (equations_refused s u b same e)
+
+      from_taken : From s end t (b ∷ bs)
+      from_taken = record {
+        sound = f.sound;
+        tallied = f.tallied;
+        blocks_alone = f.blocks_alone ∙ sym (ap (λ (a : Result ReducedSystem Refusal). after_blocks d (handed_back s a) bs) (add_taken s b k.counts free));
+        flag = from_flag;
+        elimination = from_elimination;
+        weak_zero = from_weak;
+        weak_other = λ z. f.weak_other z ∙ weak_taken s b ∙ rw z refl;
+        further = further_trans s (taken s b d) end (further_taken s b k costs.0 costs.1) f.further;
+      }
+
+  abbrev Rest : List Call → ReducedSystem → Type 0
+  Rest cs s = From s (after d s cs) (tally d (tally_of s) cs) (blocks_in s.block_count cs)
+
+  from : (s : ReducedSystem) (cs : List Call) → Sound s → Rest cs s
+  from s [] k = from_none s k
+  from s (at_refused i x h ∷ cs) k = rw (add_bad s (made i) x h) (from s cs k)
+  from s (at_damping i ∷ cs) k = by (not_full s.block_count) refl (λ h. from (taken s (made i) d) cs h) (from s cs k)
+    where
+      by : (x : Bool) → not_full s.block_count ≡ x → (Sound (taken s (made i) d) → Rest cs (taken s (made i) d)) → Rest cs s
+          → From s (after d (handed_back s (add s (made i) d)) cs) (tally d (cond x (taken_in d (tally_of s) (made i)) (tally_of s)) cs)
+          (cond x (made i ∷ blocks_in (suc s.block_count) cs) (blocks_in s.block_count cs))
+      by true e f g = rw (add_taken s (made i) k.counts e)
+          (from_taken s i k e (after d (taken s (made i) d) cs) (tally d (taken_in d (tally_of s) (made i)) cs) (blocks_in (suc s.block_count) cs)
+          (rw (← tally_taken s (made i), ← count_taken s (made i)) (f (next_sound s i k e))))
+      by false e f g = rw (add_full s (made i) k.counts e) g
+
+  refused_each : (s : ReducedSystem) (cs : List Call) → Sound s → map result_err (results d s cs) ≡ refusals d (tally_of s) cs
+  refused_each s [] k = refl
+  refused_each s (at_refused i x h ∷ cs) k = rw (add_bad s (made i) x h) (ap (λ l. Some Damping ∷ l) (refused_each s cs k))
+  refused_each s (at_damping i ∷ cs) k = by (not_full s.block_count) refl (λ h. refused_each (taken s (made i) d) cs h) (refused_each s cs k)
+    where
+      by : (x : Bool) → not_full s.block_count ≡ x
+          → (Sound (taken s (made i) d) → map result_err (results d (taken s (made i) d) cs) ≡ refusals d (tally_of (taken s (made i) d)) cs)
+          → map result_err (results d s cs) ≡ refusals d (tally_of s) cs
+          → (result_err (add s (made i) d) ∷ map result_err (results d (handed_back s (add s (made i) d)) cs))
+          ≡ cond x None (Some Full) ∷ refusals d (cond x (taken_in d (tally_of s) (made i)) (tally_of s)) cs
+      by true e f g = rw (add_taken s (made i) k.counts e, ← tally_taken s (made i)) (ap (λ l. None ∷ l) (f (next_sound s i k e)))
+      by false e f g = rw (add_full s (made i) k.counts e) (ap (λ l. Some Full ∷ l) g)
+
+  after_append : (s : ReducedSystem) (cs more : List Call) → after d s (cs ++ more) ≡ after d (after d s cs) more
+  after_append s [] more = refl
+  after_append s (c ∷ cs) more = after_append (next d s c) cs more
+
+  -- whoever runs the list call by call has its results
+  ran_each : (s : ReducedSystem) (cs : List Call) (ran : List (Result ReducedSystem Refusal)) → CallByCall d s cs ran → (ran ≡ results d s cs) × (final s ran ≡ after d s cs)
+  ran_each s [] [] h = (refl, refl)
+  ran_each s [] (r ∷ rs) h = absurd h
+  ran_each s (c ∷ cs) [] h = absurd h
+  ran_each s (c ∷ cs) (r ∷ rs) h =
+      let k = ran_each (handed_back s r) cs rs h.1 in
+      subst (λ (x : Result ReducedSystem Refusal). (r ∷ rs ≡ x ∷ results d (handed_back s x) cs) × (final (handed_back s r) rs ≡ after d (handed_back s x) cs)) h.0 (ap (λ l. r ∷ l) k.0, k.1)
+
+  sound_new : Sound new_system
+  unfolding new_system nonneg of_bits fits
+  sound_new = record { counts = tt; cost = tt; cost_fits = tt; squared = tt; squared_fits = tt; rcond = tt }
+
+  -- ---- the theorem
+
+  pub claim : (calls : List Call) → Claim d calls
+  unfolding new_system
+  claim calls = let f = from new_system calls sound_new in record {
+    figures = λ ran h. let k = ran_each new_system calls ran h in record { each = k.0; last = k.1; blocks_alone = k.1 ∙ f.blocks_alone };
+    tallied = record {
+      flag = ap (λ (t : Tally). t.flag) f.tallied;
+      blocks = ap (λ (t : Tally). t.blocks) f.tallied;
+      weak = ap (λ (t : Tally). t.weak) f.tallied;
+      refused = refused_each new_system calls sound_new;
+    };
+    flag = f.flag;
+    elimination = f.elimination new_system sound_new.counts tt (record { hessian = refl; gradient = refl; reduction = refl });
+    weak = record { undamped = λ z. f.weak_zero z ∙ zero-add (weak_in (blocks_in 0 calls)); damped = f.weak_other };
+    further = λ more. subst (Further (after d new_system calls)) (sym (after_append new_system calls more))
+        (from (after d new_system calls) more f.sound).further;
+  }

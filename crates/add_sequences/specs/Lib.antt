@@ -1,0 +1,3 @@
+-- Module 5 of document 01: `add` of schur.rs.
+pub mod Calls
+pub mod Claim

@@ -1,2 +1,0 @@
--- What a call of the C interface answers.
-pub mod Answers

@@ -1,2 +1,0 @@
--- Laws of the system of a problem.
-pub mod Blocks

@@ -1,2 +1,0 @@
--- The reduced system of a whole problem: optimizer.rs.
-pub mod Assembly

@@ -1,2 +1,0 @@
--- What the calls on a point answer.
-pub mod Calls

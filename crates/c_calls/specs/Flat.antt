@@ -1,0 +1,51 @@
+-- The structs of the calls, from flat lists of numbers.
+use Rattle.std.specs.Prelude.{ℕ, not, List, eqb, get_or, Float}
+use Rattle.numerics.specs.Vectors.{◌!◌}
+use Rattle.c_calls.specs.Slices.{part}
+use Rattle.projection.specs.declared.PinholeCamera.{PinholeCamera}
+use Rattle.linearization.specs.declared.views.Correspondence.{Correspondence}
+use Rattle.linearization.specs.declared.linearize.LocalLinearization.{LocalLinearization}
+use Rattle.linearization.specs.declared.views.Rig.{Rig}
+use Rattle.schur.specs.declared.reduced_system.ReducedSystem.{ReducedSystem}
+
+abbrev pub camera : List Float → PinholeCamera
+camera x = record { fx = x ! 0; fy = x ! 1; cx = x ! 2; cy = x ! 3; skew = x ! 4 }
+
+-- camera 1 and 2, rotation, translation, basis, baseline
+unfoldable pub rig : List Float → Rig
+rig x = record {
+  camera1 = camera (part 0 5 x);
+  camera2 = camera (part 5 5 x);
+  pose = record { rotation = part 10 9 x; translation = part 19 3 x; basis = part 22 6 x; baseline = x ! 28 };
+}
+
+unfoldable pub correspondence : List Float → Correspondence
+correspondence x = record { point = part 0 3 x; view1 = part 3 2 x; view2 = part 5 2 x; inverse_deviation = x ! 7 }
+
+unfoldable pub block : List Float → LocalLinearization
+block x = record {
+  pose_hessian = part 0 25 x;
+  cross_hessian = part 25 15 x;
+  point_hessian = part 40 9 x;
+  pose_gradient = part 49 5 x;
+  point_gradient = part 54 3 x;
+  cost = x ! 57;
+  squared_residual = x ! 58;
+}
+
+-- from 45 numbers, and the weak count, the block count and the flag, which is false where it is 0
+unfoldable pub system : List Float → List ℕ → ReducedSystem
+system x counts = record {
+  hessian = part 0 25 x;
+  gradient = part 25 5 x;
+  cost = x ! 30;
+  squared_residual = x ! 31;
+  full_pose_gradient = part 32 5 x;
+  pose_diagonal = part 37 5 x;
+  point_model_reduction = x ! 42;
+  scaled_point_gradient_inf_norm = x ! 43;
+  weak_point_count = get_or counts 0 0;
+  minimum_point_rcond = x ! 44;
+  valid = not (eqb (get_or counts 2 0) 0);
+  block_count = get_or counts 1 0;
+}

@@ -1,0 +1,83 @@
+// The calls of the C interface on a point, over lent slices: its projection, its block and how it moves. A block is 59 numbers.
+// `pixel_step` exports them.
+
+ghost use Rattle.std.specs.Prelude.{◌≡◌};
+ghost use Rattle.c_calls.specs.Answers as Answers;
+ghost use Rattle.c_calls.specs.BlockCallsCalls as Calls;
+
+use crate::{answers, flat, slices};
+use projection::Projected;
+use schur::point_step;
+use schur::point_step::PointStep;
+
+// camera: fx, fy, cx, cy, skew; observation: 2; point: 3; out: residual 2, Jacobian 6
+#[tactic(auto, unfolding(crate::specs::BlockCallsCalls::pixel_projection, crate::specs::Answers::answer))]
+pub fn pixel_projection(camera: &[f64], observation: &[f64], point: &[f64], out: &mut [f64]) -> u64
+    ensures { Answers.Answered result out.new
+        (Calls.pixel_projection camera.now observation.now point.now out.old) }
+{
+    if camera.len() != 5 || observation.len() != 2 || point.len() != 3 || out.len() != 8 {
+        return answers::lengths();
+    }
+    let projected = projection::pixel_projection(
+        flat::camera(camera, 0),
+        slices::vector(observation, 0),
+        slices::vector(point, 0),
+    );
+    answers::answer(projected.map(projection_numbers), out)
+}
+
+// rig: 29; correspondence: point, view 1, view 2, inverse deviation, 8; out: a block
+#[tactic(auto, unfolding(crate::specs::BlockCallsCalls::linearize_point, crate::specs::Answers::answer))]
+pub fn linearize_point(rig: &[f64], correspondence: &[f64], out: &mut [f64]) -> u64
+    ensures { Answers.Answered result out.new
+        (Calls.linearize_point rig.now correspondence.now out.old) }
+{
+    if rig.len() != 29 || correspondence.len() != 8 || out.len() != 59 {
+        return answers::lengths();
+    }
+    let block = linearization::linearize_point(
+        flat::rig(rig),
+        flat::correspondence(correspondence),
+    );
+    answers::answer(block.map(flat::numbers::block_numbers), out)
+}
+
+// pose_step: 5; out: step 3, damping norm
+#[tactic(auto, unfolding(crate::specs::BlockCallsCalls::point_step, crate::specs::Answers::answer))]
+pub fn point_step_with_damping_norm(
+    block: &[f64],
+    damping: f64,
+    pose_step: &[f64],
+    out: &mut [f64],
+) -> u64
+    ensures { Answers.Answered result out.new
+        (Calls.point_step block.now damping pose_step.now out.old) }
+{
+    if block.len() != 59 || pose_step.len() != 5 || out.len() != 4 {
+        return answers::lengths();
+    }
+    let step = point_step::point_step_with_damping_norm(
+        flat::block(block),
+        damping,
+        slices::vector(pose_step, 0),
+    );
+    answers::answer(step.map(point_step_numbers), out)
+}
+
+// Residual and Jacobian
+fn projection_numbers(p: Projected) -> [f64; 8]
+    ensures { result ≡ Calls.projection_numbers p }
+{
+    let r = p.residual;
+    let j = p.jacobian;
+    [r[0], r[1], j[0], j[1], j[2], j[3], j[4], j[5]]
+}
+
+// Step and damping norm
+fn point_step_numbers(p: PointStep) -> [f64; 4]
+    ensures { result ≡ Calls.point_step_numbers p }
+{
+    let s = p.step;
+    [s[0], s[1], s[2], p.damping_norm]
+}

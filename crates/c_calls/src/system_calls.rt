@@ -1,0 +1,128 @@
+// The calls of the C interface on a lent system: 45 numbers, and beside them the weak count, the block count and the flag.
+// `pixel_step` exports them.
+
+ghost use Rattle.std.specs.Prelude.{[], ◌∷◌, ◌≡◌, length};
+ghost use Rattle.refusal.specs.Refused.{map_ok};
+ghost use Rattle.c_calls.specs.Answers as Answers;
+ghost use Rattle.c_calls.specs.FlatNumbers as FlatNumbers;
+ghost use Rattle.c_calls.specs.SystemCallsCalls as Calls;
+
+use crate::{answers, flat, slices};
+use refusal::Refusal;
+use schur::reduced_system::ReducedSystem;
+
+#[tactic(auto, unfolding(crate::specs::SystemCallsCalls::new_system, crate::specs::SystemCallsCalls::system_answer))]
+pub fn system_new(system: &mut [f64], counts: &mut [u16]) -> u64
+    ensures { Calls.Changed result system.new counts.new
+        (Calls.new_system system.old counts.old) }
+{
+    if system.len() != 45 || counts.len() != 3 {
+        return answers::lengths();
+    }
+    answer(Ok(ReducedSystem::new()), system, counts)
+}
+
+#[tactic(auto, unfolding(crate::specs::SystemCallsCalls::add, crate::specs::SystemCallsCalls::system_answer))]
+pub fn system_add(system: &mut [f64], counts: &mut [u16], block: &[f64], damping: f64) -> u64
+    ensures { Calls.Changed result system.new counts.new
+        (Calls.add system.old counts.old block.now damping) }
+{
+    if system.len() != 45 || counts.len() != 3 || block.len() != 59 {
+        return answers::lengths();
+    }
+    let s = flat::system(system, counts);
+    let added = schur::add(s, flat::block(block), damping);
+    answer(added, system, counts)
+}
+
+#[tactic(auto, unfolding(crate::specs::SystemCallsCalls::finish_damping, crate::specs::SystemCallsCalls::system_answer))]
+pub fn system_finish_damping(system: &mut [f64], counts: &mut [u16], damping: f64) -> u64
+    ensures { Calls.Changed result system.new counts.new
+        (Calls.finish_damping system.old counts.old damping) }
+{
+    if system.len() != 45 || counts.len() != 3 {
+        return answers::lengths();
+    }
+    let s = flat::system(system, counts);
+    let finished = s.finish_damping(damping);
+    answer(finished, system, counts)
+}
+
+// out: 0 or 1
+#[tactic(auto, unfolding(crate::specs::SystemCallsCalls::is_valid, crate::specs::Answers::answer))]
+pub fn system_is_valid(system: &[f64], counts: &[u16], out: &mut [u16]) -> u64
+    ensures { Answers.Answered result out.new
+        (Calls.is_valid system.now counts.now out.old) }
+{
+    if system.len() != 45 || counts.len() != 3 || out.len() != 1 {
+        return answers::lengths();
+    }
+    let s = flat::system(system, counts);
+    out[0] = flag(s.is_valid());
+    0
+}
+
+// out: 1
+#[tactic(auto, unfolding(crate::specs::SystemCallsCalls::gradient_inf_norm, crate::specs::Answers::answer))]
+pub fn system_scaled_gradient_inf_norm(system: &[f64], counts: &[u16], out: &mut [f64]) -> u64
+    ensures { Answers.Answered result out.new
+        (Calls.gradient_inf_norm system.now counts.now out.old) }
+{
+    if system.len() != 45 || counts.len() != 3 || out.len() != 1 {
+        return answers::lengths();
+    }
+    let s = flat::system(system, counts);
+    answers::answer(Ok([s.scaled_gradient_inf_norm()]), out)
+}
+
+// step: 5; out: 1
+#[tactic(auto, unfolding(crate::specs::SystemCallsCalls::predicted_reduction, crate::specs::Answers::answer))]
+pub fn system_predicted_reduction(
+    system: &[f64],
+    counts: &[u16],
+    step: &[f64],
+    damping: f64,
+    point_damping_norm: f64,
+    out: &mut [f64],
+) -> u64
+    ensures { Answers.Answered result out.new
+        (Calls.predicted_reduction system.now counts.now step.now damping point_damping_norm out.old) }
+{
+    if system.len() != 45 || counts.len() != 3 || step.len() != 5 || out.len() != 1 {
+        return answers::lengths();
+    }
+    let s = flat::system(system, counts);
+    let predicted = s.predicted_reduction(slices::vector(step, 0), damping, point_damping_norm);
+    answers::answer(predicted.map(alone), out)
+}
+
+// One number as an array: with a closure in its place the proof did not close
+fn alone(x: f64) -> [f64; 1]
+    ensures { result ≡ x ∷ [] }
+{
+    [x]
+}
+
+// Stores the system where nothing was refused, and answers 0 or the refusal's code.
+#[tactic(auto, unfolding(crate::specs::FlatNumbers::system_counts))]
+fn answer(answered: Result<ReducedSystem, Refusal>, system: &mut [f64], counts: &mut [u16]) -> u64
+    requires { (length system.old ≡ 45) × (length counts.old ≡ 3) }
+    ensures number { result ≡ Answers.number answered }
+    ensures numbers { system.new ≡ Answers.stored (map_ok FlatNumbers.system_numbers answered) system.old }
+    ensures counts { counts.new ≡ Answers.stored (map_ok FlatNumbers.system_counts answered) counts.old }
+{
+    let next = match answered {
+        Ok(next) => next,
+        Err(refusal) => return answers::code(refusal),
+    };
+    let values = flat::numbers::system_numbers(next);
+    answers::store(&values, system);
+    counts.copy_from_slice(&[next.weak_point_count, next.block_count, flag(next.valid)]);
+    0
+}
+
+fn flag(b: bool) -> u16
+    ensures { result ≡ FlatNumbers.flag b }
+{
+    u16::from(b)
+}

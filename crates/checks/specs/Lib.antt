@@ -1,2 +1,0 @@
--- The checks before any sum: optimizer.rs and residual.rs.
-pub mod Checks

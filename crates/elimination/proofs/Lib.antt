@@ -1,2 +1,0 @@
--- A law of the Schur term.
-pub mod Rows

@@ -1,2 +1,0 @@
--- Laws of numbers put one after the other.
-pub mod Laws

@@ -1,3 +1,0 @@
--- Structs from flat numbers.
-pub mod Flat
-pub mod FlatNumbers

@@ -1,2 +1,0 @@
--- A list of adds over the C interface.
-pub mod FlatLists

@@ -1,2 +1,0 @@
--- Laws of the scaled gradient norm.
-pub mod Norms

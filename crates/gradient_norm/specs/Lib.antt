@@ -1,2 +1,0 @@
--- The largest entry of a gradient, scaled: schur.rs.
-pub mod GradientNorm

@@ -1,0 +1,187 @@
+// SPDX-FileCopyrightText: 2026 Pierre Moulon and OpenMVG Rust contributors
+// SPDX-License-Identifier: MIT OR Apache-2.0
+
+// Both views of a point, linearized and weighted: residuals, with their derivatives by the five
+// parameters of the pose and by the three coordinates of the point. The first half of
+// `linearize_point` of kernel/two_view/schur.rs.
+
+ghost use Rattle.std.specs.Prelude.{◌<◌, ◌≡◌};
+ghost use Rattle.numerics.specs.Binary64.{◌⊗◌};
+ghost use Rattle.numerics.specs.Vectors.{◌!◌};
+ghost use Rattle.linearization.specs.Views as Views;
+
+use crate::{jacobians, loss};
+use projection::{PinholeCamera, Projected};
+use refusal::{Refusal, View};
+use std::array;
+
+// How the second camera sits: the rotation by rows, the translation, two vectors that span the
+// translation's tangent plane, and the baseline
+#[derive(Clone, Copy)]
+pub struct Pose {
+    pub rotation: [f64; 9],
+    pub translation: [f64; 3],
+    pub basis: [f64; 6],
+    pub baseline: f64,
+}
+
+// The two cameras, and how the second one sits
+#[derive(Clone, Copy)]
+pub struct Rig {
+    pub camera1: PinholeCamera,
+    pub camera2: PinholeCamera,
+    pub pose: Pose,
+}
+
+// A point, seen by both cameras, with its inverse standard deviation
+#[derive(Clone, Copy)]
+pub struct Correspondence {
+    pub point: [f64; 3],
+    pub view1: [f64; 2],
+    pub view2: [f64; 2],
+    pub inverse_deviation: f64,
+}
+
+// View 1, whose ten derivatives by the pose are all the same number
+#[derive(Clone, Copy)]
+pub struct View1 {
+    pub residual: [f64; 2],
+    pub pose: f64,
+    pub point: [f64; 6],
+}
+
+#[derive(Clone, Copy)]
+pub struct View2 {
+    pub residual: [f64; 2],
+    pub pose: [f64; 10],
+    pub point: [f64; 6],
+}
+
+// Both views, with their residuals before any weight
+#[derive(Clone, Copy)]
+pub struct LinearizedViews {
+    pub first: View1,
+    pub second: View2,
+    pub residual1: [f64; 2],
+    pub residual2: [f64; 2],
+}
+
+// Tests row 4, then row 9 with view 1 or 2, by `else` and not by `map_err`, which is slower here.
+#[tactic(auto, unfolding(crate::specs::Views::linearize_views))]
+pub fn linearize_views(rig: Rig, correspondence: Correspondence) -> Result<LinearizedViews, Refusal>
+    ensures { result ≡ Views.linearize_views rig correspondence }
+{
+    let Rig {
+        camera1,
+        camera2,
+        pose,
+    } = rig;
+    let Correspondence {
+        point,
+        view1,
+        view2,
+        inverse_deviation,
+    } = correspondence;
+    if !good_deviation(inverse_deviation) {
+        return Err(Refusal::InverseDeviation { index: 0 });
+    }
+    let Ok(first) = projection::pixel_projection(camera1, view1, point) else {
+        return Err(Refusal::Projection {
+            view: View::First,
+            index: 0,
+        });
+    };
+    let rotated = projection::rotate(pose.rotation, point);
+    let moved = projection::camera_point(rotated, pose.translation);
+    let Ok(second) = projection::pixel_projection(camera2, view2, moved) else {
+        return Err(Refusal::Projection {
+            view: View::Second,
+            index: 0,
+        });
+    };
+    Ok(weighted_views(first, second, rotated, pose, inverse_deviation))
+}
+
+// Row 4 lets an inverse deviation through that is finite and above 0.
+#[tactic(auto, unfolding(crate::specs::Views::good_deviation))]
+pub fn good_deviation(x: f64) -> bool
+    ensures { result ≡ Views.good_deviation x }
+{
+    numerics::is_finite(x) & !(x <= 0.0)
+}
+
+// Two projections, the turned point, the pose and the inverse deviation
+#[tactic(auto, unfolding(crate::specs::Views::weighted_views))]
+fn weighted_views(
+    first: Projected,
+    second: Projected,
+    rotated: [f64; 3],
+    pose: Pose,
+    inverse_deviation: f64,
+) -> LinearizedViews
+    ensures { result ≡ Views.weighted_views first second rotated pose inverse_deviation }
+{
+    let residual1 = first.residual;
+    let residual2 = second.residual;
+    let weight1 = loss::row_weight(residual1, inverse_deviation);
+    let weight2 = loss::row_weight(residual2, inverse_deviation);
+    LinearizedViews {
+        first: first_rows(first, pose, weight1),
+        second: second_rows(second, rotated, pose, weight2),
+        residual1,
+        residual2,
+    }
+}
+
+#[tactic(auto, unfolding(crate::specs::Views::first_rows))]
+fn first_rows(first: Projected, pose: Pose, weight: f64) -> View1
+    ensures { result ≡ Views.first_rows first pose weight }
+{
+    first_view(first.residual, first.jacobian, pose.baseline, weight)
+}
+
+#[tactic(auto, unfolding(crate::specs::Views::second_rows))]
+fn second_rows(second: Projected, rotated: [f64; 3], pose: Pose, weight: f64) -> View2
+    ensures { result ≡ Views.second_rows second rotated pose weight }
+{
+    let motion = jacobians::pose_motion_jacobian(rotated, pose.basis, pose.baseline);
+    let by_pose = jacobians::pose_jacobian(second.jacobian, motion);
+    let by_point = jacobians::point_jacobian(second.jacobian, pose.rotation, pose.baseline);
+    second_view(second.residual, by_pose, by_point, weight)
+}
+
+// View 1 sees the point where it is, so the pose moves nothing: weight × 0, which shows where the
+// weight times a residual is infinite.
+#[tactic(auto, unfolding(crate::specs::Views::first_view))]
+fn first_view(residual: [f64; 2], j: [f64; 6], baseline: f64, weight: f64) -> View1
+    ensures { result ≡ Views.first_view residual j baseline weight }
+{
+    View1 {
+        residual: weigh(residual, weight),
+        pose: weight * 0.0,
+        point: array::from_fn(|i| weight * (j[i] * baseline)),
+    }
+}
+
+#[tactic(auto, unfolding(crate::specs::Views::second_view))]
+fn second_view(residual: [f64; 2], by_pose: [f64; 10], by_point: [f64; 6], weight: f64) -> View2
+    ensures { result ≡ Views.second_view residual by_pose by_point weight }
+{
+    View2 {
+        residual: weigh(residual, weight),
+        pose: weigh(by_pose, weight),
+        point: weigh(by_point, weight),
+    }
+}
+
+// Each number times the weight
+fn weigh<const N: usize>(numbers: [f64; N], weight: f64) -> [f64; N]
+    ensures { result ≡ Views.weighted N weight numbers.entry }
+{
+    array::from_fn(
+        |i|
+            requires { i < N }
+            ensures { result ≡ weight ⊗ numbers ! i }
+        { weight * numbers[i] },
+    )
+}

@@ -1,2 +1,0 @@
--- A law of bits as digits.
-pub mod Bits

@@ -1,6 +1,0 @@
-use Rattle.text.proofs.Wrote.{wrote_same}
-use Rattle.lines.proofs.Bits.{bits_are}
-use Rattle.lines.proofs.put_bits.Goals as goal
-
-pub returns : goal.returns
-returns c = wrote_same _ _ _ _ (bits_are _ _ _ _ c.to_bits.ensures c.digits-digits.ensures) c.put_three.ensures

@@ -1,7 +1,0 @@
-use Rattle.text.proofs.Wrote.{wrote_both}
-use Rattle.lines.specs.Lines.{run_line}
-use Rattle.lines.proofs.put_run.Goals as goal
-
-pub returns : goal.returns
-unfolding run_line
-returns c = wrote_both _ _ _ _ _ (wrote_both _ _ _ _ _ c.put.ensures c.put_decimal.ensures) c.put_bits.ensures

@@ -1,2 +1,0 @@
--- The loss of a residual: schur.rs.
-pub mod Loss

@@ -1,2 +1,0 @@
--- What the calls on matrices answer.
-pub mod Calls

@@ -1,9 +1,0 @@
--- Laws of the definitions, which other crates cite.
-pub mod Values
-pub mod Specials
-pub mod Differences
-pub mod Order
-pub mod Monotone
-pub mod Finite
-pub mod Fill
-pub mod FromFn

@@ -1,4 +1,0 @@
--- What the number helpers are: module 1 of document 01, "Numbers as the Rust means them".
-pub mod Binary64
-pub mod Parts
-pub mod Vectors

@@ -1,0 +1,64 @@
+-- The absolute value by a difference from 0, and the library's test for a finite value. Assumes nothing.
+use mathlib.Core.Path.{◌≡◌, refl}
+use mathlib.Core.Bool.{true, false, true≢false, false≢true}
+use Prim.Native.Nat.{ℕ, ◌+◌, ◌-◌, ◌*◌, ◌≤◌}
+use native.Mathlib.Nat.{zero-lt-suc, zero-sub, zero-mul, zero-add, mul-one, one-mul, mul-pos}
+use native.Mathlib.Omega.{arith}
+use borrow.Author.Tests.{ltb-false}
+use lib.IntN.{pos}
+use lib.Dec.{T}
+use lib.Ieee.{Float, nan, inf, fin, Format, binary32, binary64, up, down, neg, sub, lt, fits, of_bits}
+use lib.Ieee.Fits.{down_pos, neg-fits}
+use Rattle.std.specs.Float.{float_is_finite}
+use Rattle.numerics.specs.Parts.{is_finite, abs}
+use Rattle.numerics.proofs.Values.{round_value}
+
+zero_is : (f : Format) → of_bits f 0 ≡ fin false 0 (pos 0)
+unfolding of_bits
+zero_is binary32 = refl
+zero_is binary64 = refl
+
+-- ---- the absolute value
+
+above : (x : Float) → lt (fin false 0 (pos 0)) x ≡ true → x ≡ abs x
+unfolding lt abs
+above nan h = refl
+above (inf true) h = absurd (false≢true h)
+above (inf false) h = refl
+above (fin true m e) h = absurd (false≢true h)
+above (fin false m e) h = refl
+
+pub abs_above : (f : Format) (x : Float) → lt (of_bits f 0) x ≡ true → x ≡ abs x
+abs_above f x h = above x (rw (zero_is f) at h)
+
+-- the size of a value that has the sign, and of what its difference from 0 is rounded from
+cleared : (u d : ℕ) → u * (1 * d) ≡ (0 * d + u * 1) * d
+cleared u d = simp (one-mul, zero-mul, zero-add, mul-one)
+
+-- the same where the sign is clear: not above 0, the value is 0
+no_more : (u d : ℕ) → u * 1 ≤ 0 * d → u * (1 * d) ≡ (0 * d - u * 1) * d
+no_more u d h =
+    let z : u ≡ 0 = omega (arith, zero-mul d) in
+    simp (z, zero-mul, zero-sub)
+
+from_zero : (f : Format) (x : Float) → T (fits f x) → lt (fin false 0 (pos 0)) x ≡ false → sub f (fin false 0 (pos 0)) x ≡ abs x
+unfolding lt sub neg abs
+from_zero f nan p h = refl
+from_zero f (inf true) p h = refl
+from_zero f (inf false) p h = absurd (true≢false h)
+from_zero f (fin true m e) p h =
+    round_value f (fin false m e) false _ _ (mul-pos (zero-lt-suc 0) (down_pos e)) (neg-fits f (fin true m e) p) (refl, cleared (m * up e) (down e))
+from_zero f (fin false m e) p h =
+    let k = ltb-false (0 * down e) (m * up e * 1) h in
+    rw h (round_value f (fin false m e) false _ _ (mul-pos (zero-lt-suc 0) (down_pos e)) p (refl, no_more (m * up e) (down e) k))
+
+pub abs_rest : (f : Format) (x : Float) → T (fits f x) → lt (of_bits f 0) x ≡ false → sub f (of_bits f 0) x ≡ abs x
+abs_rest f x p h = rw (zero_is f) (from_zero f x p (rw (zero_is f) at h))
+
+-- ---- the library's test for a finite value
+
+pub library_is_finite : (x : Float) → float_is_finite x ≡ is_finite x
+unfolding float_is_finite is_finite
+library_is_finite nan = refl
+library_is_finite (inf s) = refl
+library_is_finite (fin s m e) = refl

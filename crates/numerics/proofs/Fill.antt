@@ -1,0 +1,106 @@
+-- A list that is filled from the front, entry by entry, with what a function gives. Assumes nothing.
+use mathlib.Core.Path.{◌≡◌, refl, sym, ap, subst, ◌∙◌}
+use mathlib.Core.List.{List, ◌++◌, map, append-nil}
+use Prim.Native.Nat.{ℕ, zero, suc, ◌+◌, ◌*◌, ◌/◌, ◌%◌, ◌<◌}
+use native.Mathlib.Nat.{add-zero, zero-add, add-suc, suc-add}
+use native.Mathlib.Numerals.{add-one}
+use native.Mathlib.Omega.{arith}
+use lib.ListN.{length, drop, set}
+use lib.Seq.{drop-cons, set_at, append_snoc, drop-length}
+use lib.Ieee.{Float, nan}
+use Rattle.std.specs.List.{range_with_len}
+use Rattle.std.proofs.lemmas.List.FromFn.{length-map-range_with_len, map-range_with_len_more}
+use Rattle.numerics.specs.Binary64 as Binary64
+use Rattle.numerics.specs.Vectors.{◌!◌, tabulate}
+
+-- `tabulate` in std's words: the map of f over the indexes
+from_index : (a n : ℕ) (f : ℕ → Float) → tabulate n (λ i. f (a + i)) ≡ map f (range_with_len a n)
+from_index a zero f = refl
+from_index a (suc n) f = rw (add-zero a, ← from_index (a + 1) n f) (simp (add-suc, add-one, suc-add))
+
+pub tabulate_maps : (n : ℕ) (f : ℕ → Float) → tabulate n f ≡ map f (range_with_len 0 n)
+tabulate_maps n f = rw (← from_index 0 n f) (simp zero-add)
+
+pub length_tabulate : (n : ℕ) (f : ℕ → Float) → length (tabulate n f) ≡ n
+length_tabulate n f = rw tabulate_maps (length-map-range_with_len f 0 n)
+
+-- k entries are filled, and the rest is l's
+abbrev pub filled : List Float → (ℕ → Float) → ℕ → List Float
+filled l f k = tabulate k f ++ drop k l
+
+pub fill_next : (l h : List Float) (f : ℕ → Float) (k : ℕ) (v : Float) → h ≡ filled l f k → v ≡ f k → k < length l → set h k v ≡ filled l f (k + 1)
+fill_next l h f k v e g i =
+    ap (λ (t : List Float). set t k v) e
+    ∙ ap (λ (x : Float). set (filled l f k) k x) g
+    ∙ ap (λ (t : List Float). set (tabulate k f ++ t) k (f k)) (drop-cons l k nan i)
+    ∙ set_at (tabulate k f) (l ! k) (drop (suc k) l) (f k) k (length_tabulate k f)
+    ∙ sym (rw (tabulate_maps (k + 1) f, map-range_with_len_more f 0 k k (zero-add k), ← tabulate_maps k f, add-one k) (append_snoc (tabulate k f) (f k) (drop (suc k) l)))
+
+pub fill_all : (l h : List Float) (f : ℕ → Float) (k n : ℕ) → h ≡ filled l f k → k ≡ n → length l ≡ n → h ≡ tabulate n f
+fill_all l h f k n e g i =
+    e
+    ∙ ap (λ (m : ℕ). filled l f m) g
+    ∙ ap (λ (m : ℕ). tabulate n f ++ drop m l) (sym i)
+    ∙ ap (λ (t : List Float). tabulate n f ++ t) (drop-length l)
+    ∙ append-nil (tabulate n f)
+
+-- ---- an array of n entries that begins as +0 everywhere
+
+abbrev cleared : ℕ → List Float
+cleared n = tabulate n (λ i. Binary64.zero)
+
+-- k of n entries are filled
+unfoldable pub filled_of : ℕ → (ℕ → Float) → ℕ → List Float
+filled_of n f k = filled (cleared n) f k
+
+pub array_none : (n : ℕ) (f : ℕ → Float) → cleared n ≡ filled_of n f 0
+unfolding filled_of
+array_none n f = refl
+
+pub array_next : (n : ℕ) (h : List Float) (f : ℕ → Float) (k : ℕ) (v : Float) → h ≡ filled_of n f k → v ≡ f k → k < n → set h k v ≡ filled_of n f (k + 1)
+unfolding filled_of
+array_next n h f k v e g i = fill_next (cleared n) h f k v e g (subst (λ (m : ℕ). k < m) (sym (length_tabulate n (λ i. Binary64.zero))) i)
+
+pub array_full : (n : ℕ) (h : List Float) (f : ℕ → Float) (k : ℕ) → h ≡ filled_of n f k → k ≡ n → h ≡ tabulate n f
+unfolding filled_of
+array_full n h f k e g = fill_all (cleared n) h f k n e g (length_tabulate n (λ i. Binary64.zero))
+
+-- ---- a matrix of n entries, filled row by row
+
+-- entry k, by its row and column, where a row has w entries
+unfoldable pub by_rows : ℕ → (ℕ → ℕ → Float) → ℕ → Float
+by_rows w g k = g (k / w) (k % w)
+
+-- an entry is the row's and the column's
+at_place : (w i j k : ℕ) (g : ℕ → ℕ → Float) (v : Float) → v ≡ g i j → k / w ≡ i → k % w ≡ j → v ≡ by_rows w g k
+unfolding by_rows
+at_place w i j k g v e p q = rw (p, q) e
+
+three_places : (n : ℕ) (h : List Float) (f : ℕ → Float) (k : ℕ) (u v w : Float) → h ≡ filled_of n f k → u ≡ f k → v ≡ f (k + 1) → w ≡ f (k + 2) → k + 2 < n
+    → set (set (set h k u) (k + 1) v) (k + 2) w ≡ filled_of n f (k + 2 + 1)
+three_places n h f k u v w e a b c i =
+    let first = array_next n h f k u e a (omega arith) in
+    let second = array_next n _ f (k + 1) v first b (omega arith) in
+    let place : k + 1 + 1 ≡ k + 2 = omega arith in
+    array_next n _ f (k + 2) w (second ∙ ap (λ (m : ℕ). filled_of n f m) place) c i
+
+pub row_of_three : (n : ℕ) (h : List Float) (g : ℕ → ℕ → Float) (i : ℕ) (u v w : Float) → h ≡ filled_of n (by_rows 3 g) (3 * i) → u ≡ g i 0 → v ≡ g i 1 → w ≡ g i 2
+    → 3 * i + 2 < n → set (set (set h (3 * i) u) (3 * i + 1) v) (3 * i + 2) w ≡ filled_of n (by_rows 3 g) (3 * (i + 1))
+row_of_three n h g i u v w e a b c l =
+    let last : 3 * i + 2 + 1 ≡ 3 * (i + 1) = omega arith in
+    three_places n h (by_rows 3 g) (3 * i) u v w e (at_place 3 i 0 (3 * i) g u a (omega arith) (omega arith)) (at_place 3 i 1 (3 * i + 1) g v b (omega arith) (omega arith))
+    (at_place 3 i 2 (3 * i + 2) g w c (omega arith) (omega arith))
+    l
+    ∙ ap (λ (m : ℕ). filled_of n (by_rows 3 g) m) last
+
+pub row_of_five : (n : ℕ) (h : List Float) (g : ℕ → ℕ → Float) (i : ℕ) (u v w x y : Float) → h ≡ filled_of n (by_rows 5 g) (5 * i) → u ≡ g i 0 → v ≡ g i 1 → w ≡ g i 2
+    → x ≡ g i 3 → y ≡ g i 4 → 5 * i + 4 < n
+    → set (set (set (set (set h (5 * i) u) (5 * i + 1) v) (5 * i + 2) w) (5 * i + 3) x) (5 * i + 4) y ≡ filled_of n (by_rows 5 g) (5 * (i + 1))
+row_of_five n h g i u v w x y e a b c d p l =
+    let third = three_places n h (by_rows 5 g) (5 * i) u v w e (at_place 5 i 0 (5 * i) g u a (omega arith) (omega arith)) (at_place 5 i 1 (5 * i + 1) g v b (omega arith) (omega arith)) (at_place 5 i 2 (5 * i + 2) g w c (omega arith) (omega arith)) (omega arith) in
+    let place : 5 * i + 2 + 1 ≡ 5 * i + 3 = omega arith in
+    let fourth = array_next n _ (by_rows 5 g) (5 * i + 3) x (third ∙ ap (λ (m : ℕ). filled_of n (by_rows 5 g) m) place) (at_place 5 i 3 (5 * i + 3) g x d (omega arith) (omega arith)) (omega arith) in
+    let next : 5 * i + 3 + 1 ≡ 5 * i + 4 = omega arith in
+    let last : 5 * i + 4 + 1 ≡ 5 * (i + 1) = omega arith in
+    array_next n _ (by_rows 5 g) (5 * i + 4) y (fourth ∙ ap (λ (m : ℕ). filled_of n (by_rows 5 g) m) next) (at_place 5 i 4 (5 * i + 4) g y p (omega arith) (omega arith)) l
+    ∙ ap (λ (m : ℕ). filled_of n (by_rows 5 g) m) last

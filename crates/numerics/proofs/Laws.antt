@@ -1,0 +1,129 @@
+-- Laws of the larger and the smaller of two values, and of the largest of a list. A number here is a value that is no NaN. Assumes nothing.
+use mathlib.Core.Path.{◌≡◌, refl, sym, ap, ◌∙◌, subst}
+use mathlib.Core.Bool.{Bool, true, false, not, ◌&&◌, ◌||◌, cond, and-true}
+use mathlib.Core.List.{List, [], ◌∷◌, ◌++◌}
+use Rattle.std.specs.Prelude.{fold}
+use Rattle.std.proofs.lemmas.Bool.{false_from_ne_true}
+use Rattle.std.proofs.lemmas.Float.{floats_per, le_of_not-lt, le_refl}
+use Rattle.std.proofs.lemmas.List.Sums.{fold-append}
+use borrow.Author.Numbers.{equal_no_nan, above_no_nan}
+use Prim.Native.Nat.{◌*◌}
+use lib.Dec.{T, eqb, eqb→eq}
+use lib.Ieee.{Float, nan, inf, fin, Format, binary64, up, down, lt, eq, le, fits, is_nan}
+use lib.Ieee.Bits.{is_true, is_false}
+use lib.Ieee.Fits.{and_l, down_pos}
+use Rattle.numerics.specs.Binary64.{◌⊗◌, zero, epsilon64}
+use Rattle.numerics.specs.Parts.{negative, nonneg}
+use Rattle.numerics.proofs.Values.{same_value}
+use Rattle.numerics.proofs.Order.{not_lt, nonneg_not_nan, nonneg_is, not_negative, nonneg_above, nonneg_floor}
+use Rattle.numerics.proofs.Monotone.{nonneg_zero}
+use Rattle.numerics.specs.Extrema.{max, min, larger, Larger, largest}
+use Rattle.numerics.proofs.Picks.{pick_has}
+
+no_lt_nan : (x y : Float) → is_nan y ≡ true → lt x y ≡ false
+no_lt_nan x y h = false_from_ne_true (lt x y) (λ k. rw h at (above_no_nan y x k))
+
+-- ---- the larger and the smaller of two values
+
+min_le_number : (x y : Float) → T (not (is_nan x)) → T (not (is_nan y)) → T (le (min x y) x)
+unfolding min
+min_le_number x y p q = pick_has _ _ x y (λ z. T (le z x)) q (λ h. le_refl x p) (λ h k. le_refl x p) (λ h. le_of_not-lt x y p q h)
+
+-- the second may be a NaN, which is passed over
+pub min_le_left : (x y : Float) → T (not (is_nan x)) → T (le (min x y) x)
+unfolding min
+min_le_left x y p = by (is_nan y) refl
+  where
+    by : (n : Bool) → is_nan y ≡ n → T (le (min x y) x)
+    by true e = rw e (le_refl x p)
+    by false e = min_le_number x y p (rw e tt)
+
+-- by one comparison, the larger of a value that is clear of the sign and of any other, a NaN too
+pub max_select : (least x : Float) → T (nonneg least) → max least x ≡ cond (lt least x) x least
+unfolding max le
+max_select least x h = by (is_nan x) refl
+  where
+    flip : (t : Bool) → cond (not t) least x ≡ cond t x least
+    flip true = refl
+    flip false = refl
+
+    by : (n : Bool) → is_nan x ≡ n → cond (n || lt x least || (eq least x && not (negative least))) least x ≡ cond (lt least x) x least
+    by true e = rw (no_lt_nan least x e)
+    by false e =
+        rw (not_negative least h, and-true (eq least x), floats_per.symm least x)
+        (ap (λ (t : Bool). cond t least x) (sym (not_lt least x (nonneg_not_nan least h) (rw e tt))) ∙ flip (lt least x))
+
+pub nonneg_max : (x y : Float) → T (nonneg x) → T (nonneg (max x y))
+nonneg_max x y h = rw (max_select x y h) (by (lt x y) (nonneg_above x y h))
+  where
+    by : (t : Bool) → (T t → T (nonneg y)) → T (nonneg (cond t y x))
+    by true k = k tt
+    by false k = h
+
+pub nonneg_min : (x y : Float) → T (nonneg x) → T (nonneg y) → T (nonneg (min x y))
+unfolding min
+nonneg_min x y h k = pick_has _ _ x y (λ z. T (nonneg z)) (nonneg_not_nan y k) (λ l. h) (λ l m. h) (λ l. k)
+
+-- ---- `larger` in the place of `max`
+
+-- equal values that the format holds, with the sign clear, are one value
+pub eq_same : (f : Format) (x y : Float) → T (fits f x) → T (fits f y) → T (nonneg x) → T (nonneg y) → T (eq x y) → x ≡ y
+unfolding eq nonneg
+eq_same f nan y p q a b h = absurd h
+eq_same f (inf s) nan p q a b h = absurd h
+eq_same f (inf true) (inf t) p q a b h = absurd a
+eq_same f (inf false) (inf true) p q a b h = absurd b
+eq_same f (inf false) (inf false) p q a b h = refl
+eq_same f (inf s) (fin t n d) p q a b h = absurd h
+eq_same f (fin s m e) nan p q a b h = absurd h
+eq_same f (fin s m e) (inf t) p q a b h = absurd h
+eq_same f (fin true m e) (fin t n d) p q a b h = absurd a
+eq_same f (fin false m e) (fin true n d) p q a b h = absurd b
+eq_same f (fin false m e) (fin false n d) p q a b h =
+    same_value f (fin false m e) (fin false n d) false (m * up e) (down e) (down_pos e) p q (refl, refl)
+    (refl, sym (eqb→eq (m * up e * down d) (n * up d * down e) (and_l (eqb (m * up e * down d) (n * up d * down e)) true h)))
+
+pub larger_is : (f : Format) (low x : Float) → T (fits f low) → T (fits f x) → Larger low x (larger low x)
+unfolding max
+larger_is f low x p q = record {
+  is = refl;
+  first = λ n. sym (max_select low x n);
+  second = λ n. pick_has _ _ x low (λ z. larger low x ≡ z) (nonneg_not_nan low n) (λ h. chosen (is_true (lt low x) h)) (tied n) (λ h. other (is_false (lt low x) h));
+}
+  where
+    chosen : lt low x ≡ true → larger low x ≡ x
+    chosen h = rw h
+
+    other : lt low x ≡ false → larger low x ≡ low
+    other h = rw h
+
+    tied : T (nonneg low) → T (eq x low) → T (not (negative x)) → larger low x ≡ x
+    tied n h s =
+        let e = eq_same f x low q p (subst T (sym (nonneg_is x (equal_no_nan x low (is_true (eq x low) h)))) s) n h in
+        by (lt low x) e
+      where
+        by : (b : Bool) → x ≡ low → cond b x low ≡ x
+        by true e = refl
+        by false e = sym e
+
+-- ---- the largest of a list
+
+pub nonneg_largest : (low : Float) (xs : List Float) → T (nonneg low) → T (nonneg (fold max low xs))
+nonneg_largest low [] n = n
+nonneg_largest low (x ∷ xs) n = nonneg_largest (max low x) xs (nonneg_max low x n)
+
+-- the floor of a scale, 64ε of the largest, is clear of the sign
+pub floor_clear : (xs : List Float) (s : Float) → s ≡ largest xs → T (nonneg (epsilon64 ⊗ s))
+floor_clear xs s e = rw e (nonneg_floor (largest xs) (nonneg_largest zero xs (nonneg_zero binary64)))
+
+-- One comparison each finds it: what was found of xs is clear of the sign, and so is what is found of one more.
+abbrev pub Found : List Float → Float → Type 0
+Found xs low = T (nonneg low) × (low ≡ largest xs)
+
+pub found_none : Found [] zero
+found_none = (nonneg_zero binary64, refl)
+
+pub found_more : (xs : List Float) (low x r : Float) → Found xs low → Larger low x r → Found (xs ++ (x ∷ [])) r
+found_more xs low x r h l =
+    let e : r ≡ max low x = l.first h.0 in
+    (subst (λ (y : Float). T (nonneg y)) (sym e) (nonneg_max low x h.0), e ∙ ap (λ (y : Float). max y x) h.1 ∙ sym (fold-append max zero xs (x ∷ [])))

@@ -1,0 +1,38 @@
+-- The parts of a value: its sign, its absolute value, whether it is finite, and its magnitude as a whole number.
+use Rattle.std.specs.Prelude.{ℕ, ◌*◌, ◌/◌, ◌^◌, Bool, true, false, not, ◌&&◌, Float}
+use Rattle.std.specs.Float.{nan, inf, fin, binary64}
+use Rattle.std.specs.Float.Ieee.{low, up, down, lt}
+use Rattle.numerics.specs.Binary64.{zero}
+
+-- whether the sign is set: true of −0 too
+unfoldable pub negative : Float → Bool
+negative nan = false
+negative (inf s) = s
+negative (fin s m e) = s
+
+-- a number with the sign clear: +0 and what lies above it, and neither −0 nor NaN
+unfoldable pub nonneg : Float → Bool
+nonneg nan = false
+nonneg (inf s) = not s
+nonneg (fin s m e) = not s
+
+-- `f64::is_finite`
+unfoldable pub is_finite : Float → Bool
+is_finite nan = false
+is_finite (inf s) = false
+is_finite (fin s m e) = true
+
+abbrev pub positive_finite : Float → Bool
+positive_finite x = is_finite x && lt zero x
+
+-- `f64::abs`: the sign is cleared, of a zero too
+unfoldable pub abs : Float → Float
+abs nan = nan
+abs (inf s) = inf false
+abs (fin s m e) = fin false m e
+
+-- how many times the smallest positive value, 2 ^ -1074, a finite binary64 is without its sign: a whole number. It says nothing of a NaN or an infinity.
+unfoldable pub magnitude : Float → ℕ
+magnitude nan = 0
+magnitude (inf s) = 0
+magnitude (fin s m e) = m * up e * 2 ^ low binary64 / down e

@@ -1,0 +1,43 @@
+// `f64::max` and `f64::min`, with document 01's rule for unlike zeros.
+
+ghost use Rattle.std.specs.Prelude.{◌≡◌};
+ghost use Rattle.numerics.specs.Extrema as Extrema;
+
+// The larger of the two. A NaN is passed over; of unlike zeros it is +0.
+#[tactic(auto, using(crate::proofs::Picks::sign_is), unfolding(crate::specs::Extrema::max))]
+pub fn max(x: f64, y: f64) -> f64
+    ensures { result ≡ Extrema.max x y }
+{
+    if y < x || y.is_nan() || (x == y && x.is_sign_positive()) {
+        x
+    } else {
+        y
+    }
+}
+
+// The smaller of the two. A NaN is passed over; of unlike zeros it is −0.
+#[tactic(auto, using(crate::proofs::Picks::sign_is), unfolding(crate::specs::Extrema::min))]
+pub fn min(x: f64, y: f64) -> f64
+    ensures { result ≡ Extrema.min x y }
+{
+    if x < y || y.is_nan() || (x == y && x.is_sign_negative()) {
+        x
+    } else {
+        y
+    }
+}
+
+// `max` by one comparison, for a `low` that is a number with the sign clear: a NaN in x is passed
+// over, and of unlike zeros it is +0.
+pub fn larger(low: f64, x: f64) -> f64
+    ensures { Extrema.Larger low x result }
+{
+    if low < x { x } else { low }
+}
+
+// The largest of some numbers and +0. A NaN is passed over.
+pub fn largest<const N: usize>(xs: [f64; N]) -> f64
+    ensures { result ≡ Extrema.largest xs.entry }
+{
+    xs.iter().fold(0.0, |low, x| larger(low, *x))
+}

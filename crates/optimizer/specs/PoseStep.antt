@@ -1,0 +1,24 @@
+-- The step of the pose, limited in length: `limit_pose_step` of optimizer.rs.
+use Rattle.std.specs.Prelude.{cond, List, [], ◌∷◌, Float}
+use Rattle.std.specs.Float.Ieee.{neg, lt}
+use Rattle.numerics.specs.Binary64.{◌⊗◌, ◌⊘◌, half}
+use Rattle.root.specs.Root.{sqrt}
+use Rattle.numerics.specs.Vectors.{◌!◌, sum, tabulate}
+use Rattle.numerics.specs.Extrema.{max}
+
+abbrev pub squared : Float → Float
+squared x = x ⊗ x
+
+-- the longer of the rotation's part and the translation's
+abbrev pub step_length : List Float → Float
+step_length x = max (sqrt (sum (squared (x ! 0) ∷ squared (x ! 1) ∷ squared (x ! 2) ∷ []))) (sqrt (sum (squared (x ! 3) ∷ squared (x ! 4) ∷ [])))
+
+abbrev pub scaled : List Float → Float → List Float
+scaled x by = tabulate 5 (λ i. x ! i ⊗ by)
+
+-- `limit_pose_step` at 0.5; the comparison is false for a NaN, which lets the vector through
+unfoldable pub limit_pose_step : List Float → List Float
+limit_pose_step x = cond (lt half (step_length x)) (scaled x (half ⊘ step_length x)) x
+
+unfoldable pub pose_step : List Float → List Float
+pose_step x = limit_pose_step (tabulate 5 (λ i. neg (x ! i)))

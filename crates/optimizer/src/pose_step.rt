@@ -1,0 +1,53 @@
+// SPDX-FileCopyrightText: 2026 Pierre Moulon and OpenMVG Rust contributors
+// SPDX-License-Identifier: MIT OR Apache-2.0
+
+// The step of the pose, limited in length: `limit_pose_step` of kernel/two_view/optimizer.rs.
+
+ghost use Rattle.std.specs.Prelude.{◌≡◌};
+ghost use Rattle.numerics.specs.Vectors as Vectors;
+ghost use Rattle.optimizer.specs.PoseStep as PoseStep;
+ghost use Rattle.root.specs.Root as Root;
+
+use numerics::{extrema, vectors};
+
+// The most that a step turns or moves the second camera
+const MAX_LENGTH: f64 = 0.5;
+
+// `limit_pose_step` at 0.5: where both lengths are NaN the vector passes through.
+#[tactic(auto, unfolding(crate::specs::PoseStep::limit_pose_step))]
+pub fn limit_pose_step(x: [f64; 5]) -> [f64; 5]
+    ensures { result ≡ PoseStep.limit_pose_step x }
+{
+    let length = step_length(x);
+    if MAX_LENGTH < length {
+        return scaled(x, MAX_LENGTH / length);
+    }
+    x
+}
+
+fn scaled(x: [f64; 5], by: f64) -> [f64; 5]
+    ensures { result ≡ PoseStep.scaled x by }
+{
+    x.map(|v| v * by)
+}
+
+// The longer of the rotation's and the translation's part; each sum begins at −0.
+fn step_length(x: [f64; 5]) -> f64
+    ensures { result ≡ PoseStep.step_length x }
+{
+    extrema::max(length([x[0], x[1], x[2]]), length([x[3], x[4]]))
+}
+
+fn length<const N: usize>(v: [f64; N]) -> f64
+    ensures { result ≡ Root.sqrt (Vectors.dot N v.entry v.entry) }
+{
+    root::sqrt(vectors::dot(v, v))
+}
+
+// The limited step of a solution
+#[tactic(auto, unfolding(crate::specs::PoseStep::pose_step))]
+pub fn pose_step(x: [f64; 5]) -> [f64; 5]
+    ensures { result ≡ PoseStep.pose_step x }
+{
+    limit_pose_step(x.map(|v| -v))
+}

@@ -1,0 +1,43 @@
+-- The damping of a 3 by 3 point block, `damping_diagonal` and `damped_matrix` of point_block.rs. A matrix is nine numbers, row by row.
+use Rattle.std.specs.Prelude.{Bool, not, ◌&&◌, cond, List, [], ◌∷◌, Float, Result, Ok, Err}
+use Rattle.std.specs.Float.Ieee.{lt}
+use Rattle.numerics.specs.Binary64.{◌⊕◌, ◌⊗◌, zero, epsilon64}
+use Rattle.numerics.specs.Parts.{is_finite, positive_finite}
+use Rattle.numerics.specs.Vectors.{◌!◌}
+use Rattle.numerics.specs.Extrema.{max, largest}
+use Rattle.refusal.specs.declared.Refusal.{Refusal}
+use Rattle.refusal.specs.declared.Refusal.TheVariants.{NotFactored}
+
+-- row 3: damping not finite or below 0
+unfoldable pub good_damping : Float → Bool
+good_damping damping = is_finite damping && not (lt damping zero)
+
+unfoldable pub largest_diagonal : List Float → Float
+largest_diagonal m = largest (m ! 0 ∷ m ! 4 ∷ m ! 8 ∷ [])
+
+-- each diagonal entry, but no less than 64ε times the largest; a NaN gives way to that floor
+unfoldable pub floored : List Float → List Float
+floored m =
+    let floor = epsilon64 ⊗ largest_diagonal m in
+    max (m ! 0) floor ∷ max (m ! 4) floor ∷ max (m ! 8) floor ∷ []
+
+-- "No positive finite largest diagonal: no factor": row 10
+unfoldable pub damping_diagonal : List Float → Result (List Float) Refusal
+damping_diagonal m = cond (positive_finite (largest_diagonal m)) (Ok (floored m)) (Err NotFactored)
+
+-- the matrix with damping times those entries added along the diagonal
+unfoldable pub added_diagonal : List Float → Float → List Float → List Float
+added_diagonal m damping d =
+    m ! 0 ⊕ damping ⊗ d ! 0
+    ∷ m ! 1
+    ∷ m ! 2
+    ∷ m ! 3
+    ∷ m ! 4 ⊕ damping ⊗ d ! 1
+    ∷ m ! 5
+    ∷ m ! 6
+    ∷ m ! 7
+    ∷ m ! 8 ⊕ damping ⊗ d ! 2
+    ∷ []
+
+unfoldable pub damped_matrix : List Float → Float → Result (List Float) Refusal
+damped_matrix m damping = elim (damping_diagonal m) [ Ok d ↦ Ok (added_diagonal m damping d) | Err r ↦ Err r ]

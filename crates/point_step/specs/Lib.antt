@@ -1,2 +1,0 @@
--- The step of a point: schur.rs.
-pub mod PointStep

@@ -1,2 +1,0 @@
--- The steps of all points: optimizer.rs.
-pub mod PointSteps

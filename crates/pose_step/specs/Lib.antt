@@ -1,2 +1,0 @@
--- The step of the pose: optimizer.rs.
-pub mod PoseStep

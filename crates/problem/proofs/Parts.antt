@@ -1,0 +1,71 @@
+-- Lengths that belong to a count, and checks item by item. Assumes nothing.
+use mathlib.Core.Path.{◌≡◌, refl, sym, ap, ◌∙◌}
+use mathlib.Core.Bool.{Bool, true, false, ◌&&◌}
+use mathlib.Core.List.{List, [], ◌∷◌}
+use Prim.Native.Nat.{ℕ, ◌+◌, ◌*◌, ◌/◌, ◌%◌, ◌<◌}
+use native.Mathlib.Omega.{arith}
+use native.Mathlib.Nat.{div-add-mod', mul_comm, add-zero}
+use borrow.Author.Tests.{eqb-true, eqb-false, eq-eqb}
+use lib.Arith.{digits_div, digits_mod}
+use lib.Dec.{eqb}
+use lib.ListN.{get_or}
+use lib.Ieee.{Float}
+use Rattle.std.specs.Prelude.{Result, Ok, Err}
+use Rattle.std.specs.Result.{result_and, is_ok}
+use Rattle.refusal.specs.First.{Checked, unless, first}
+use Rattle.refusal.specs.declared.Refusal.{Refusal}
+use Rattle.refusal.specs.declared.Refusal.TheVariants.{Projection}
+use Rattle.refusal.specs.declared.View.{View}
+use Rattle.refusal.specs.declared.View.TheVariants.{First, Second}
+use Rattle.refusal.proofs.Scans.{Scanned}
+use Rattle.projection.specs.declared.Projected.{Projected}
+use Rattle.problem.specs.Problem.{Problem, triple, pair, observation, project}
+use Rattle.problem.specs.Checks.{check_view, check_projection}
+
+-- by quotient and remainder
+pub multiple : (l e n : ℕ) → 0 < e → (eqb (l / e) n && eqb (l % e) 0) ≡ eqb l (e * n)
+multiple l e n h = by (eqb l (e * n)) refl
+  where
+    same : l ≡ e * n → l ≡ n * e + 0
+    same q = q ∙ mul_comm e n ∙ sym (add-zero (n * e))
+
+    back : l / e ≡ n → l % e ≡ 0 → l ≡ e * n
+    back q r = sym (div-add-mod' l e) ∙ ap (λ (k : ℕ). k * e + l % e) q ∙ ap (λ (k : ℕ). n * e + k) r ∙ add-zero (n * e) ∙ mul_comm n e
+
+    parts : (s t : Bool) → eqb (l / e) n ≡ s → eqb (l % e) 0 ≡ t → (l ≡ e * n → ⊥) → (s && t) ≡ false
+    parts true true p q different = absurd (different (back (eqb-true (l / e) n p) (eqb-true (l % e) 0 q)))
+    parts true false p q different = refl
+    parts false t p q different = refl
+
+    by : (b : Bool) → eqb l (e * n) ≡ b → (eqb (l / e) n && eqb (l % e) 0) ≡ b
+    by true q =
+        let m = same (eqb-true l (e * n) q) in
+        rw (eq-eqb (l / e) n (ap (λ (k : ℕ). k / e) m ∙ digits_div n h), eq-eqb (l % e) 0 (ap (λ (k : ℕ). k % e) m ∙ digits_mod n h)) refl
+    by false q = parts (eqb (l / e) n) (eqb (l % e) 0) refl refl (eqb-false l (e * n) q)
+
+-- ---- the views of a point, by their place in the list of both
+
+abbrev views : List View
+views = First ∷ Second ∷ []
+
+abbrev pub check_at : Problem → ℕ → ℕ → Checked
+check_at p i k = check_view p i (get_or views k First)
+
+none_after : (r s : Checked) → result_and r s ≡ result_and r (result_and s (Ok tt))
+none_after (Ok u) (Ok v) = refl
+none_after (Ok u) (Err e) = refl
+none_after (Err e) s = refl
+
+pub views_begin : (p : Problem) (i : ℕ) → Scanned (check_projection p i) (check_at p i) 2 0
+unfolding first
+views_begin p i = (omega arith, none_after (check_view p i First) (check_view p i Second))
+
+two_seen : (p : Problem) (view : View) (i : ℕ) → pair (observation p.view1 p.view2 view i) 0 ≡ observation p.view1 p.view2 view i
+two_seen p First i = refl
+two_seen p Second i = refl
+
+-- what a view's test says of its check
+pub seen_check : (p : Problem) (i k : ℕ) (view : View) (part seen point : List Float) (r : Result Projected Refusal) (good : Bool) → view ≡ get_or views k First
+    → part ≡ observation p.view1 p.view2 view i → seen ≡ pair part 0 → point ≡ triple p.points i → r ≡ project p.rig view seen point → is_ok r ≡ good
+    → check_at p i k ≡ unless good (Projection view i)
+seen_check p i k view part seen point r good v a b c d e = rw (← e, ← v, d, b, a, c, two_seen p view i) refl

@@ -1,6 +1,0 @@
--- Laws of the run that a record holds and of its list: it meets no row below 3 (`Rows`), and the prefix read decides (`Prefix`).
-mod Columns
-mod Runs
-pub mod Bounds
-pub mod Rows
-pub mod Prefix

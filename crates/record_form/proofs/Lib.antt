@@ -1,2 +1,0 @@
--- Laws of the record's form.
-pub mod Forms

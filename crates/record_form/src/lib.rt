@@ -1,7 +1,0 @@
-// The form of a run record: document 01, "Run record and its list".
-#![tactic(auto)]
-
-mod form;
-mod reader;
-
-pub use form::{MAX_RECORD, check};

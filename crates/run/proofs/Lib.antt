@@ -1,2 +1,0 @@
--- Laws of the numbers that a record holds.
-mod Runs

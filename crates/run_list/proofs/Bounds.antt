@@ -1,0 +1,226 @@
+-- The longest list: 4,057 bytes. Assumes nothing.
+use mathlib.Core.Path.{◌≡◌, refl, ap, ◌∙◌}
+use mathlib.Core.Bool.{Bool, true, false, cond}
+use mathlib.Core.List.{List, [], ◌∷◌, ◌++◌}
+use Prim.Native.Nat.{ℕ, zero, suc, ◌+◌, ◌*◌, ◌-◌, ◌/◌, ◌≤◌, ◌<◌}
+use native.Mathlib.Omega.{arith}
+use native.Mathlib.Nat.{zero-add}
+use borrow.Author.Tests.{ltb-true, ltb-false, lt-leb, le-leb}
+use lib.Dec.{eqb, ltb}
+use lib.ListN.{length, take, drop, length-append}
+use lib.Seq.{take_at}
+use lib.Ieee.{Float, binary64, to_bits}
+use Rattle.numerics.proofs.Fill.{length_tabulate}
+use Rattle.std.specs.Prelude.{Ok, Err}
+use Rattle.refusal.specs.First.{Checked}
+use Rattle.refusal.specs.Refused.{row}
+use Rattle.refusal.specs.declared.Refusal.{Refusal}
+use Rattle.refusal.proofs.Scans.{after_ok}
+use Rattle.problem.specs.Problem.{Problem, count}
+use Rattle.schur.specs.Model.{is_valid}
+use Rattle.schur.specs.declared.reduced_system.ReducedSystem.{ReducedSystem}
+use Rattle.problem.specs.Checks as Checks
+use Rattle.optimizer.specs.Assembly.{block_at, reduced_system}
+use Rattle.problem.proofs.Passed.{checked}
+use Rattle.optimizer.proofs.Blocks.{weak_at_most, costs_are_numbers}
+use Rattle.text.specs.Hex.{digits}
+use Rattle.run_record.specs.Fields.{point_fields}
+use Rattle.run_record.specs.Form as Form
+use Rattle.run_record.specs.Run.{column, run, damping}
+use Rattle.text.specs.Text.{space, line_feed, digit, without_zeros, decimal, pasted, Put}
+use Rattle.problem.specs.Letters.{letter}
+use Rattle.run_list.specs.Lines.{bits_then, run_line, point_line, refused_line}
+use Rattle.run_list.specs.SumLine.{validity, verdict, sum_line}
+use Rattle.run_list.specs.Lists.{point_lines, lines_of, check, listed, list, max_list, fits, NeverNan, Wrote}
+use Rattle.run_record.proofs.Forms.{formed, few_points}
+use Rattle.text.proofs.Puts.{put_fits, put_length}
+
+-- ---- decimals
+
+shorter : (k : ℕ) (l : List ℕ) → length (without_zeros k l) ≤ length l
+unfolding without_zeros
+shorter zero l = omega arith
+shorter (suc k) [] = omega arith
+shorter (suc k) (d ∷ l) = by (eqb d 48) (shorter k l)
+  where
+    by : (b : Bool) → length (without_zeros k l) ≤ length l → length (cond b (without_zeros k l) (d ∷ l)) ≤ suc (length l)
+    by true h = omega arith
+    by false h = omega arith
+
+ten : (n : ℕ) → length (decimal n) ≤ 10
+unfolding decimal
+ten n = shorter 9 _
+
+-- of a number below 1,000 three digits are left
+small : (n : ℕ) → n < 1000 → decimal n ≡ without_zeros 2 (digit (n / 100) ∷ digit (n / 10) ∷ digit n ∷ [])
+unfolding decimal without_zeros
+small n h =
+    let a : n / 1000000000 ≡ 0 = omega arith in
+    let b : n / 100000000 ≡ 0 = omega arith in
+    let c : n / 10000000 ≡ 0 = omega arith in
+    let d : n / 1000000 ≡ 0 = omega arith in
+    let e : n / 100000 ≡ 0 = omega arith in
+    let f : n / 10000 ≡ 0 = omega arith in
+    let g : n / 1000 ≡ 0 = omega arith in
+    rw (a, b, c, d, e, f, g) refl
+
+three : (n : ℕ) → n < 1000 → length (decimal n) ≤ 3
+three n h = rw (small n h) (shorter 2 (digit (n / 100) ∷ digit (n / 10) ∷ digit n ∷ []))
+
+two : (n : ℕ) → n < 100 → length (decimal n) ≤ 2
+unfolding without_zeros
+two n h = let i : n / 100 ≡ 0 = omega arith in rw (small n (omega arith), i) (shorter 1 (digit (n / 10) ∷ digit n ∷ []))
+
+one : (n : ℕ) → n < 10 → length (decimal n) ≤ 1
+unfolding without_zeros
+one n h =
+    let i : n / 100 ≡ 0 = omega arith in
+    let j : n / 10 ≡ 0 = omega arith in
+    rw (small n (omega arith), i, j) (shorter 0 (digit n ∷ []))
+
+-- ---- lines
+
+bits_length : (x : Float) (after : List ℕ) → length (bits_then x after) ≡ 17 + length after
+unfolding bits_then
+bits_length x after = length-append (space ∷ [] ++ digits (to_bits binary64 x)) after
+
+run_length : (n : ℕ) (d : Float) → n < 1000 → length (run_line n d) ≤ 25
+unfolding run_line
+run_length n d h =
+    let a = length-append (114 ∷ 117 ∷ 110 ∷ space ∷ [] ++ decimal n) (bits_then d (line_feed ∷ [])) in
+    let b = length-append (114 ∷ 117 ∷ 110 ∷ space ∷ []) (decimal n) in
+    let c = bits_length d (line_feed ∷ []) in
+    let k = three n h in
+    omega arith
+
+point_length : (i l : ℕ) → length (point_line i l) ≡ 5 + length (decimal i)
+unfolding point_line
+point_length i l =
+    let a = length-append (112 ∷ space ∷ [] ++ decimal i) (space ∷ l ∷ line_feed ∷ []) in
+    let b = length-append (112 ∷ space ∷ []) (decimal i) in
+    omega arith
+
+-- a line for each of n points: one digit, and one more from 10 and from 100 on
+points_length : (p : Problem) (n : ℕ) → n ≤ 1000 → length (point_lines p n) ≤ 6 * n + (n - 10) + (n - 100)
+unfolding point_lines
+points_length p zero h = omega arith
+points_length p (suc n) h =
+    let a = length-append (point_lines p n) (point_line n (letter (block_at p n) p.damping)) in
+    let b = point_length n (letter (block_at p n) p.damping) in
+    let c = points_length p n (omega arith) in
+    by (ltb n 10) (ltb n 100) refl refl a b c
+  where
+    by : (x y : Bool) → ltb n 10 ≡ x → ltb n 100 ≡ y
+        → length (point_lines p n ++ point_line n (letter (block_at p n) p.damping)) ≡ length (point_lines p n) + length (point_line n (letter (block_at p n) p.damping))
+        → length (point_line n (letter (block_at p n) p.damping)) ≡ 5 + length (decimal n) → length (point_lines p n) ≤ 6 * n + (n - 10) + (n - 100)
+        → length (point_lines p n ++ point_line n (letter (block_at p n) p.damping)) ≤ 6 * suc n + (suc n - 10) + (suc n - 100)
+    by true y e f a b c = let k = one n (ltb-true n 10 e) in omega arith
+    by false true e f a b c = let i = ltb-false n 10 e in let k = two n (ltb-true n 100 f) in omega arith
+    by false false e f a b c = let i = ltb-false n 100 f in let k = three n (omega arith) in omega arith
+
+sum_length : (s : ReducedSystem) → s.weak_point_count < 1000 → length (sum_line s) ≤ 46
+unfolding sum_line
+sum_length s h =
+    let w = decimal s.weak_point_count in
+    let end : List ℕ = space ∷ validity (is_valid s) ∷ space ∷ verdict (is_valid s) s.weak_point_count ∷ line_feed ∷ [] in
+    let x = bits_then s.cost [] in
+    let y = bits_then s.squared_residual (space ∷ []) in
+    let a = length-append (115 ∷ 117 ∷ 109 ∷ [] ++ x ++ y ++ w) end in
+    let b = length-append (115 ∷ 117 ∷ 109 ∷ [] ++ x ++ y) w in
+    let c = length-append (115 ∷ 117 ∷ 109 ∷ [] ++ x) y in
+    let d = length-append (115 ∷ 117 ∷ 109 ∷ []) x in
+    let e = bits_length s.cost [] in
+    let f = bits_length s.squared_residual (space ∷ []) in
+    let k = three s.weak_point_count h in
+    omega arith
+
+refused_length : (refusal : Refusal) → length (refused_line refusal) ≤ 41
+unfolding refused_line
+refused_length refusal =
+    let r = row refusal in
+    let x : List ℕ = 114 ∷ 101 ∷ 102 ∷ 117 ∷ 115 ∷ 101 ∷ 100 ∷ space ∷ [] in
+    let n = decimal r.number in
+    let v = decimal r.view in
+    let i = decimal r.index in
+    let a = length-append (x ++ n ++ (space ∷ []) ++ v ++ (space ∷ []) ++ i) (line_feed ∷ []) in
+    let b = length-append (x ++ n ++ (space ∷ []) ++ v ++ (space ∷ [])) i in
+    let c = length-append (x ++ n ++ (space ∷ []) ++ v) (space ∷ []) in
+    let d = length-append (x ++ n ++ (space ∷ [])) v in
+    let e = length-append (x ++ n) (space ∷ []) in
+    let f = length-append x n in
+    let k = ten r.number in
+    let l = ten r.view in
+    let m = ten r.index in
+    omega arith
+
+-- ---- the list
+
+count_run : (r : List ℕ) → count (run r) ≡ point_fields r
+unfolding run
+count_run r = length_tabulate (point_fields r) (column r 56 1)
+
+lines_length : (r : List ℕ) → check r ≡ Ok tt → length (lines_of r (reduced_system (run r))) ≤ max_list
+unfolding lines_of check
+lines_length r e =
+    let checks = after_ok (Form.check r) (Checks.check (run r)) e in
+    let n : point_fields r ≤ 512 = few_points r (formed r checks.0) in
+    let k = checked (run r) checks.1 in
+    let m = weak_at_most (run r) k.1 k.0.3 in
+    let i = count_run r in
+    let w : (reduced_system (run r)).weak_point_count ≤ point_fields r = omega arith in
+    let a = length-append (run_line (point_fields r) (damping r) ++ point_lines (run r) (point_fields r)) (sum_line (reduced_system (run r))) in
+    let b = length-append (run_line (point_fields r) (damping r)) (point_lines (run r) (point_fields r)) in
+    let c = run_length (point_fields r) (damping r) (omega arith) in
+    let d = points_length (run r) (point_fields r) (omega arith) in
+    let f = sum_length (reduced_system (run r)) (omega arith) in
+    omega arith
+
+pub list_fits : (r : List ℕ) → length (list r) ≤ max_list
+unfolding list
+list_fits r = by (check r) refl
+  where
+    by : (x : Checked) → check r ≡ x → length (listed r x) ≤ max_list
+    by (Ok tt) e = lines_length r e
+    by (Err f) e = let h = refused_length f in omega arith
+
+-- the sum line's cost and squared residual are never NaN
+pub sums_are_numbers : (r : List ℕ) → check r ≡ Ok tt → NeverNan r
+unfolding check
+sums_are_numbers r e =
+    let n = costs_are_numbers (run r) (checked (run r) (after_ok (Form.check r) (Checks.check (run r)) e).1).1 in
+    record { cost = n.0; squared = n.1 }
+
+-- ---- written
+
+module _ (r room : List ℕ) (l : ℕ) (after : List ℕ) (h : length room ≡ max_list) (p : Put (list r) 0 room l after) where
+  put_list : (l ≡ length (list r)) × (after ≡ pasted room 0 (list r))
+  put_list = let k = list_fits r in let q = put_fits (list r) 0 room l after p (omega arith) in (q.0 ∙ zero-add (length (list r)), q.1)
+
+  pub made : take l after ≡ list r
+  made =
+      ap (λ (n : ℕ). take n after) put_list.0
+      ∙ ap (λ (x : List ℕ). take (length (list r)) x) put_list.1
+      ∙ take_at (list r) (drop (0 + length (list r)) room) (length (list r)) refl
+
+  pub made_length : l ≤ length after
+  made_length = let k = list_fits r in let a = put_list.0 in let b = put_length (list r) 0 room l after p in omega arith
+
+  module _ (out : List ℕ) where
+    pub not_written : length out < l → Wrote r out (Err (record { needed = l })) out
+    not_written t =
+        let a = put_list.0 in
+        let f : fits r out ≡ false = lt-leb (length (list r)) (length out) (omega arith) in record {
+          answer = rw (a, f) refl;
+          bound = list_fits r;
+          same_out = rw f refl;
+        }
+
+    pub written : l ≤ length out → (next : ℕ) (end : List ℕ) → Put (take l after) 0 out next end → Wrote r out (Ok l) end
+    written t next end q =
+        let a = put_list.0 in
+        let b = ap length made in
+        let f : fits r out ≡ true = le-leb (length (list r)) (length out) (omega arith) in record {
+          answer = rw (a, f) refl;
+          bound = list_fits r;
+          same_out = rw f ((put_fits (take l after) 0 out next end q (omega arith)).1 ∙ ap (λ (x : List ℕ). pasted out 0 x) made);
+        }

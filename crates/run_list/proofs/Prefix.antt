@@ -1,0 +1,30 @@
+-- The prefix that the program `list` reads decides: a record's list is the list of its first 34,560 bytes, one more than the longest record has. A longer record is refused by row 14, of which nothing but the number is printed.
+-- Assumes nothing.
+use mathlib.Core.Path.{◌≡◌, refl, sym, ap, ◌∙◌}
+use mathlib.Core.Bool.{Bool, true, false}
+use mathlib.Core.List.{List}
+use Prim.Native.Nat.{ℕ, ◌+◌, ◌<◌}
+use native.Mathlib.Omega.{arith}
+use borrow.Author.Tests.{leb-true, leb-false, lt-leb}
+use lib.Dec.{leb}
+use lib.ListN.{length, take}
+use lib.Seq.{take_all, length-take-le}
+use Rattle.refusal.specs.declared.Refusal.TheVariants.{RecordTooLong}
+use Rattle.run_record.specs.Form as Form
+use Rattle.run_record.specs.Form.{max_record}
+use Rattle.run_list.specs.Lines.{refused_line}
+use Rattle.run_list.specs.Lists.{check, list}
+
+too_long : (r : List ℕ) → max_record < length r → list r ≡ refused_line RecordTooLong
+unfolding list check Form.check
+too_long r h = rw (lt-leb (length r) max_record h) refl
+
+pub prefix_decides : (r : List ℕ) → list (take (max_record + 1) r) ≡ list r
+prefix_decides r = by (leb (length r) (max_record + 1)) refl
+  where
+    by : (b : Bool) → leb (length r) (max_record + 1) ≡ b → list (take (max_record + 1) r) ≡ list r
+    by true e = ap list (take_all (max_record + 1) r (leb-true (length r) (max_record + 1) e))
+    by false e =
+        let h = leb-false (length r) (max_record + 1) e in
+        let n = length-take-le (max_record + 1) r (omega arith) in
+        too_long (take (max_record + 1) r) (omega arith) ∙ sym (too_long r (omega arith))

@@ -1,0 +1,60 @@
+-- The list of a run record: rows 14 and 15, then 3 to 9, then the lines.
+use Rattle.std.specs.Prelude.{ℕ, zero, suc, ◌≤◌, ◌≡◌, Bool, false, cond, List, [], ◌++◌, leb, length, Result, Ok, Err}
+use Rattle.std.specs.Result.{result_and}
+use Rattle.std.specs.Float.Ieee.{is_nan}
+use Rattle.refusal.specs.First.{Checked}
+use Rattle.problem.specs.Problem.{Problem}
+use Rattle.schur.specs.declared.reduced_system.ReducedSystem.{ReducedSystem}
+use Rattle.problem.specs.Checks as Checks
+use Rattle.optimizer.specs.Assembly.{block_at, reduced_system}
+use Rattle.run_record.specs.Fields.{point_fields}
+use Rattle.run_record.specs.Form as Form
+use Rattle.run_record.specs.Run.{run, damping}
+use Rattle.text.specs.Text.{pasted}
+use Rattle.problem.specs.Letters.{letter}
+use Rattle.run_list.specs.Lines.{run_line, point_line, refused_line}
+use Rattle.run_list.specs.SumLine.{sum_line}
+use Rattle.run_list.specs.declared.record.list.TooSmall.{TooSmall}
+
+-- a line for each of the first n points
+unfoldable pub point_lines : Problem → ℕ → List ℕ
+point_lines p zero = []
+point_lines p (suc n) = point_lines p n ++ point_line n (letter (block_at p n) p.damping)
+
+-- the lines of a run, with the sum line of a system
+unfoldable pub lines_of : List ℕ → ReducedSystem → List ℕ
+lines_of r s = run_line (point_fields r) (damping r) ++ point_lines (run r) (point_fields r) ++ sum_line s
+
+-- Rows 14 and 15, then the checks of the run. Of these rows 1 and 2 cannot come up (`checks_from_row_3`): the lists are made with as many numbers as the point fields ask for, and a record within `max_record` has 512 points at most.
+unfoldable pub check : List ℕ → Checked
+check r = result_and (Form.check r) (Checks.check (run r))
+
+-- the lines of the run, or of its refusal
+abbrev pub listed : List ℕ → Checked → List ℕ
+listed r (Ok x) = lines_of r (reduced_system (run r))
+listed r (Err e) = refused_line e
+
+unfoldable pub list : List ℕ → List ℕ
+list r = listed r (check r)
+
+-- no list has more bytes, so a buffer of that length always suffices
+abbrev pub max_list : ℕ
+max_list = 4057
+
+-- of a run that is not refused: what the sum line prints is never NaN
+pub record NeverNan (r : List ℕ) : Type 0 where
+  pub cost : is_nan (reduced_system (run r)).cost ≡ false
+  pub squared : is_nan (reduced_system (run r)).squared_residual ≡ false
+
+-- whether a list fits into a buffer, what is answered then, and what the buffer is
+abbrev pub fits : List ℕ → List ℕ → Bool
+fits r out = leb (length (list r)) (length out)
+
+abbrev pub answered : List ℕ → List ℕ → Result ℕ TooSmall
+answered r out = cond (fits r out) (Ok (length (list r))) (Err (record { needed = length (list r) }))
+
+-- what `write_list` leaves: the list's length, or that it is too long; and the list in out, which is else as it was
+pub record Wrote (r out : List ℕ) (w : Result ℕ TooSmall) (after : List ℕ) : Type 0 where
+  pub answer : w ≡ answered r out
+  pub bound : length (list r) ≤ max_list
+  pub same_out : after ≡ cond (fits r out) (pasted out 0 (list r)) out

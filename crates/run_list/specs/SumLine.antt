@@ -1,0 +1,19 @@
+-- The line of a list's sums and of its verdict.
+use Rattle.std.specs.Prelude.{ℕ, Bool, ◌&&◌, cond, List, [], ◌∷◌, ◌++◌, eqb}
+use Rattle.schur.specs.Model.{is_valid}
+use Rattle.schur.specs.declared.reduced_system.ReducedSystem.{ReducedSystem}
+use Rattle.text.specs.Text.{space, line_feed, decimal}
+use Rattle.run_list.specs.Lines.{bits_then}
+
+-- `y` or `n`; then `u` if it is `y` and the weak count is 0, else `x`
+abbrev pub validity : Bool → ℕ
+validity valid = cond valid 121 110
+
+abbrev pub verdict : Bool → ℕ → ℕ
+verdict valid weak = cond (valid && eqb weak 0) 117 120
+
+-- `sum`, cost bits, squared residual bits, weak count, validity, verdict; of the system after pose damping
+unfoldable pub sum_line : ReducedSystem → List ℕ
+sum_line s =
+    115 ∷ 117 ∷ 109 ∷ [] ++ bits_then s.cost [] ++ bits_then s.squared_residual (space ∷ []) ++ decimal s.weak_point_count
+    ++ (space ∷ validity (is_valid s) ∷ space ∷ verdict (is_valid s) s.weak_point_count ∷ line_feed ∷ [])

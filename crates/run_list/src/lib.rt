@@ -1,0 +1,5 @@
+// run_list.
+#![tactic(auto)]
+
+pub mod lines;
+pub mod record;

@@ -1,0 +1,47 @@
+// The lines of a list: document 01, "Run record and its list".
+
+mod sum;
+
+ghost use Rattle.run_list.specs.Lines as Lines;
+ghost use Rattle.text.specs.Text as Text;
+
+use refusal::Refusal;
+pub use sum::put_sum;
+use text::{Writer, hex_digits};
+
+// `run`, the number of points, the damping's bits
+pub fn put_run(writer: &mut Writer, n: u32, damping: f64)
+    ensures { Text.Wrote (Lines.run_line n damping) writer.old writer.new }
+{
+    writer.put(b"run ");
+    writer.put_decimal(n);
+    put_bits(writer, damping, b"\n");
+}
+
+// A space, a number's bits, and what follows them
+pub fn put_bits(writer: &mut Writer, x: f64, after: &[u8])
+    ensures { Text.Wrote (Lines.bits_then x after.now) writer.old writer.new }
+{
+    let digits = hex_digits::digits(numerics::to_bits(x));
+    writer.put_three(b" ", &digits, after);
+}
+
+// `p`, the index, the letter as it stands in the text
+#[tactic(auto, using(text::proofs::Wrote::wrote_both), unfolding(crate::specs::Lines::point_line))]
+pub fn put_point(writer: &mut Writer, i: u32, letter: u8)
+    ensures { Text.Wrote (Lines.point_line i letter) writer.old writer.new }
+{
+    writer.put(b"p ");
+    writer.put_decimal_then(i, &[b' ', letter, b'\n']);
+}
+
+// `refused`, number, view, index
+pub fn put_refused(writer: &mut Writer, refusal: Refusal)
+    ensures { Text.Wrote (Lines.refused_line refusal) writer.old writer.new }
+{
+    let row = refusal.row();
+    writer.put(b"refused ");
+    writer.put_decimal_then(row.number, b" ");
+    writer.put_decimal_then(row.view, b" ");
+    writer.put_decimal_then(row.index, b"\n");
+}

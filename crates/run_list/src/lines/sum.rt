@@ -1,0 +1,36 @@
+// The line of a list's sums and of its verdict: document 01, "Run record and its list".
+
+ghost use Rattle.std.specs.Prelude.{◌≡◌};
+ghost use Rattle.run_list.specs.SumLine as SumLine;
+ghost use Rattle.text.specs.Text as Text;
+
+use schur::reduced_system::ReducedSystem;
+use text::Writer;
+
+// `sum`, cost and squared residual bits, weak count, validity, verdict
+pub fn put_sum(writer: &mut Writer, system: ReducedSystem)
+    ensures { Text.Wrote (SumLine.sum_line system) writer.old writer.new }
+{
+    let valid = system.is_valid();
+    let weak = system.weak_point_count;
+    writer.put(b"sum");
+    crate::lines::put_bits(writer, system.cost, b"");
+    crate::lines::put_bits(writer, system.squared_residual, b" ");
+    writer.put_decimal_then(
+        weak as u32,
+        &[b' ', validity(valid), b' ', verdict(valid, weak), b'\n'],
+    );
+}
+
+fn validity(valid: bool) -> u8
+    ensures { result ≡ SumLine.validity valid }
+{
+    if valid { b'y' } else { b'n' }
+}
+
+// `u`: the run can be used
+fn verdict(valid: bool, weak: u16) -> u8
+    ensures { result ≡ SumLine.verdict valid weak }
+{
+    if valid && weak == 0 { b'u' } else { b'x' }
+}

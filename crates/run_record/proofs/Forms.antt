@@ -1,0 +1,62 @@
+-- The form of a record: what the tests of its fields say. Assumes nothing.
+use mathlib.Core.Path.{◌≡◌, refl, sym}
+use mathlib.Core.Bool.{Bool, true, false, ◌&&◌, true≢false}
+use mathlib.Core.List.{List}
+use Prim.Native.Nat.{ℕ, zero, suc, ◌+◌, ◌*◌, ◌≤◌}
+use native.Mathlib.Nat.{add-zero}
+use native.Mathlib.Omega.{arith}
+use borrow.Author.Tests.{leb-true}
+use lib.Dec.{eqb, leb}
+use lib.ListN.{length}
+use Rattle.std.specs.Prelude.{Ok}
+use Rattle.std.specs.Int.{w16, from_le_bytes}
+use Rattle.refusal.specs.First.{unless, first}
+use Rattle.refusal.specs.declared.Refusal.TheVariants.{RecordTooLong}
+use Rattle.refusal.proofs.Scans.{after_ok, held, all_ok}
+use Rattle.run_record.specs.declared.fields.Field.{Field}
+use Rattle.run_record.specs.declared.fields.Field.TheVariants.{Camera1, Camera2, Pose, Basis, Damping, Point}
+use Rattle.run_record.specs.Fields.{tag, size, byte, bytes, point_at, point_fields, camera1_at, camera2_at, pose_at, basis_at, damping_at}
+use Rattle.run_record.specs.Form.{max_record, is_whole, check_field, check_header, check, Formed}
+
+-- a field's length, read low byte first
+pub size_read : (r : List ℕ) (start : ℕ) → from_le_bytes w16 (bytes r (start + 1) 2) ≡ byte r (start + 1) + 256 * byte r (start + 2)
+size_read r start =
+    let e : start + 1 + 1 ≡ start + 2 = omega arith in
+    rw (add-zero (start + 1), e) (omega arith)
+
+module _ (r : List ℕ) (tag size start : ℕ) where
+  whole_fits : is_whole r tag size start ≡ true → start + 3 + size ≤ length r
+  unfolding is_whole
+  whole_fits e = leb-true (start + 3 + size) (length r) (by (leb (start + 3 + size) (length r)) (eqb (byte r start) tag) (eqb (byte r (start + 1) + 256 * byte r (start + 2)) size) e)
+    where
+      by : (x y z : Bool) → (x && y && z) ≡ true → x ≡ true
+      by true y z e = refl
+      by false y z e = absurd (true≢false (sym e))
+
+-- a field without a refusal ends within the record
+pub field_fits : (r : List ℕ) (field : Field) (start : ℕ) → check_field r field start ≡ Ok tt → start + 3 + size field ≤ length r
+field_fits r field start e = whole_fits r (tag field) (size field) start (held _ _ e)
+
+-- what rows 14 and 15 leave
+pub formed : (r : List ℕ) → check r ≡ Ok tt → Formed r
+unfolding check
+formed r e =
+    let long = after_ok (unless (leb (length r) max_record) RecordTooLong) _ e in
+    let head = after_ok (check_header r) _ long.1 in
+    let c1 = after_ok (check_field r Camera1 camera1_at) _ head.0 in
+    let c2 = after_ok (check_field r Camera2 camera2_at) _ c1.1 in
+    let p = after_ok (check_field r Pose pose_at) _ c2.1 in
+    let b = after_ok (check_field r Basis basis_at) _ p.1 in
+    let l : length r ≤ max_record = leb-true (length r) max_record (held (leb (length r) max_record) RecordTooLong long.0) in
+    let h : 255 ≤ length r = field_fits r Damping damping_at b.1 in
+    (by (point_fields r) refl h head.1, l)
+  where
+    by : (n : ℕ) → n ≡ point_fields r → 255 ≤ length r → first (λ i. check_field r Point (point_at i)) 0 n ≡ Ok tt → length r ≡ point_at n
+    by zero q h f = omega (arith, q)
+    by (suc n) q h f =
+        let k : 255 + 67 * n + 3 + 64 ≤ length r = field_fits r Point (point_at n) (all_ok (λ i. check_field r Point (point_at i)) (suc n) n (omega arith) f) in
+        omega (arith, q)
+
+-- a record of the right form has 512 points at most
+pub few_points : (r : List ℕ) → Formed r → point_fields r ≤ 512
+few_points r f = let e = f.0 in let h = f.1 in omega arith

@@ -1,0 +1,56 @@
+-- A run record's bytes, and where its fields begin.
+use Rattle.std.specs.Prelude.{ℕ, ◌+◌, ◌*◌, ◌-◌, ◌/◌, List, map, length, get_or}
+use Rattle.std.specs.List.{range_with_len}
+use Rattle.run_record.specs.declared.fields.Field.{Field}
+use Rattle.run_record.specs.declared.fields.Field.TheVariants.{Camera1, Camera2, Pose, Basis, Damping, Point}
+
+-- the byte at an offset
+abbrev pub byte : List ℕ → ℕ → ℕ
+byte r i = get_or r i 0
+
+-- so many bytes from an offset on
+abbrev pub bytes : List ℕ → ℕ → ℕ → List ℕ
+bytes r at n = map (λ i. byte r (at + i)) (range_with_len 0 n)
+
+-- the tag of a field, and the bytes of its payload
+abbrev pub tag : Field → ℕ
+tag Camera1 = 1
+tag Camera2 = 2
+tag Pose = 3
+tag Basis = 4
+tag Damping = 5
+tag Point = 6
+
+abbrev pub size : Field → ℕ
+size Camera1 = 40
+size Camera2 = 40
+size Pose = 96
+size Basis = 56
+size Damping = 8
+size Point = 64
+
+-- where the fields begin: each has three bytes before its payload
+abbrev pub camera1_at : ℕ
+camera1_at = 0
+
+abbrev pub camera2_at : ℕ
+camera2_at = 43
+
+abbrev pub pose_at : ℕ
+pose_at = 86
+
+abbrev pub basis_at : ℕ
+basis_at = 185
+
+abbrev pub damping_at : ℕ
+damping_at = 244
+
+abbrev pub points_at : ℕ
+points_at = 255
+
+abbrev pub point_at : ℕ → ℕ
+point_at i = points_at + 67 * i
+
+-- how many point fields begin before the end
+abbrev pub point_fields : List ℕ → ℕ
+point_fields r = (length r - points_at + 66) / 67

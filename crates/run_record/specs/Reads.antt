@@ -1,0 +1,13 @@
+-- A reader holds a record's bytes and a place in them.
+use Rattle.std.specs.Prelude.{ℕ, ◌+◌, ◌≡◌}
+use Rattle.run_record.specs.Fields.{size}
+use Rattle.run_record.specs.declared.fields.Field.{Field}
+use Rattle.run_record.specs.declared.record_form.reader.Reader.{Reader}
+
+-- at another place in the same bytes
+abbrev pub MovedTo : Reader → Reader → ℕ → Type 0
+MovedTo old new at = (new.«record» ≡ old.«record») × (new.at ≡ at)
+
+-- behind the field at its place: three bytes and the payload
+abbrev pub MovedPast : Reader → Reader → Field → Type 0
+MovedPast old new field = MovedTo old new (old.at + 3 + size field)

@@ -1,0 +1,40 @@
+-- What a block makes of a system's equations once its point is eliminated, and what it shows of itself: `add` of schur.rs. Document 01, "The system".
+use Rattle.std.specs.Prelude.{Bool, true, false, ◌&&◌, cond, List, Float, Ok, Err}
+use Rattle.std.specs.Float.Ieee.{eq}
+use Rattle.numerics.specs.Extrema.{min}
+use Rattle.numerics.specs.Binary64.{zero}
+use Rattle.point_block.specs.Condition.{reciprocal_condition_number, is_weak}
+use Rattle.point_block.specs.Lone.{factor}
+use Rattle.linearization.specs.declared.linearize.LocalLinearization.{LocalLinearization}
+use Rattle.schur.specs.Elimination.{reduced_hessian, reduced_gradient, point_reduction}
+use Rattle.schur.specs.declared.reduced_system.ReducedSystem.{ReducedSystem}
+use Rattle.schur.specs.declared.elimination.block_elimination.Change.{Change}
+
+-- "Damping −0 counts as zero"
+abbrev pub is_zero : Float → Bool
+is_zero damping = eq damping zero
+
+-- a block that does not factor leaves the equations alone; at damping zero only it is weak, with an rcond of 0
+unfoldable pub not_eliminated : ReducedSystem → Bool → Change
+not_eliminated s at_zero = record {
+  hessian = s.hessian;
+  gradient = s.gradient;
+  point_model_reduction = s.point_model_reduction;
+  minimum_point_rcond = cond at_zero zero s.minimum_point_rcond;
+  factored = false;
+  weak = at_zero;
+}
+
+-- a block that factors, by its packed inverse; its rcond is asked for at damping zero only
+unfoldable pub eliminated : ReducedSystem → LocalLinearization → Float → List Float → Change
+eliminated s b damping inverse = record {
+  hessian = reduced_hessian s.hessian inverse b;
+  gradient = reduced_gradient s.gradient inverse b;
+  point_model_reduction = point_reduction s.point_model_reduction inverse b;
+  minimum_point_rcond = cond (is_zero damping) (min s.minimum_point_rcond (reciprocal_condition_number inverse b.point_hessian)) s.minimum_point_rcond;
+  factored = true;
+  weak = is_zero damping && is_weak (reciprocal_condition_number inverse b.point_hessian);
+}
+
+unfoldable pub eliminate : ReducedSystem → LocalLinearization → Float → Change
+eliminate s b damping = elim (factor b.point_hessian damping) [ Ok f ↦ eliminated s b damping f.inverse | Err r ↦ not_eliminated s (is_zero damping) ]

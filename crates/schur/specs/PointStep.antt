@@ -1,0 +1,42 @@
+-- `point_step_with_damping_norm` of schur.rs: how a point moves with a step of the pose.
+use Rattle.std.specs.Prelude.{ℕ, ◌+◌, ◌*◌, cond, List, Float, Result, Ok, Err}
+use Rattle.std.specs.Float.Ieee.{neg}
+use Rattle.numerics.specs.Binary64.{◌⊕◌, ◌⊗◌}
+use Rattle.numerics.specs.Vectors.{◌!◌, sum, tabulate}
+use Rattle.refusal.specs.declared.Refusal.{Refusal}
+use Rattle.refusal.specs.declared.Refusal.TheVariants.{Damping}
+use Rattle.point_block.specs.Damping.{good_damping, damping_diagonal}
+use Rattle.point_block.specs.Factor.{solve}
+use Rattle.point_block.specs.Lone.{factor}
+use Rattle.linearization.specs.declared.linearize.LocalLinearization.{LocalLinearization}
+use Rattle.linearization.specs.declared.terms.PointTerms.{PointTerms}
+use Rattle.linearization.specs.Linearize.{point_terms}
+use Rattle.schur.specs.PoseModel.{dot5}
+use Rattle.schur.specs.declared.point_step.PointStep.{PointStep}
+
+-- column i of five rows of three
+unfoldable pub cross_column : List Float → ℕ → List Float
+cross_column cross i = tabulate 5 (λ j. cross ! (3 * j + i))
+
+-- the point's gradient with what the pose's step adds to it
+unfoldable pub right_hand_side : PointTerms → List Float → List Float
+right_hand_side t pose_step = tabulate 3 (λ i. t.point_gradient ! i ⊕ dot5 (cross_column t.cross_hessian i) pose_step)
+
+unfoldable pub step_of : List Float → PointTerms → List Float → List Float
+step_of inverse t pose_step = tabulate 3 (λ i. neg (solve inverse (right_hand_side t pose_step) ! i))
+
+unfoldable pub damping_norm : List Float → List Float → Float
+damping_norm diagonal step = sum (tabulate 3 (λ i. diagonal ! i ⊗ step ! i ⊗ step ! i))
+
+unfoldable pub stepped : List Float → PointTerms → List Float → Result PointStep Refusal
+stepped inverse t pose_step =
+    let step = step_of inverse t pose_step in
+    elim (damping_diagonal t.point_hessian) [ Ok d ↦ Ok (record { step = step; damping_norm = damping_norm d step }) | Err r ↦ Err r ]
+
+-- tests row 3, then row 10
+unfoldable pub step_of_terms : PointTerms → Float → List Float → Result PointStep Refusal
+step_of_terms t damping pose_step =
+    cond (good_damping damping) (elim (factor t.point_hessian damping) [ Ok f ↦ stepped f.inverse t pose_step | Err r ↦ Err r ]) (Err Damping)
+
+unfoldable pub point_step : LocalLinearization → Float → List Float → Result PointStep Refusal
+point_step b damping pose_step = step_of_terms (point_terms b) damping pose_step

@@ -1,0 +1,22 @@
+-- The damping of the pose's equations, in `finish_damping` and `predicted_reduction` of schur.rs.
+use Rattle.std.specs.Prelude.{ℕ, ◌/◌, ◌%◌, cond, List, [], ◌∷◌, eqb, Float}
+use Rattle.numerics.specs.Binary64.{◌⊕◌, ◌⊗◌, epsilon64, min_positive}
+use Rattle.numerics.specs.Vectors.{◌!◌, sum, tabulate}
+use Rattle.numerics.specs.Extrema.{max, largest}
+
+-- a pose's curvature is taken as at least this
+unfoldable pub pose_floor : List Float → Float
+pose_floor d = epsilon64 ⊗ max (largest (d ! 0 ∷ d ! 1 ∷ d ! 2 ∷ d ! 3 ∷ d ! 4 ∷ [])) min_positive
+
+unfoldable pub damping_diagonal : List Float → List Float
+damping_diagonal d = tabulate 5 (λ i. max (d ! i) (pose_floor d))
+
+-- damping × the floored pose diagonal is added to the Hessian's diagonal alone
+unfoldable pub damped_entry : List Float → List Float → Float → ℕ → Float
+damped_entry h diagonal damping k = cond (eqb (k % 6) 0) (h ! k ⊕ damping ⊗ diagonal ! (k / 6)) (h ! k)
+
+unfoldable pub damped_hessian : List Float → List Float → Float → List Float
+damped_hessian h d damping = tabulate 25 (damped_entry h (damping_diagonal d) damping)
+
+unfoldable pub pose_damping_norm : List Float → List Float → Float
+pose_damping_norm d step = sum (tabulate 5 (λ i. damping_diagonal d ! i ⊗ step ! i ⊗ step ! i))

@@ -1,0 +1,63 @@
+-- A block taken into the reduced system: `add` of schur.rs. Document 01, "The system".
+use Rattle.std.specs.Prelude.{ℕ, suc, ◌<◌, ◌≤◌, Bool, ◌&&◌, cond, leb, ltb, Float, Result, Ok, Err}
+use Rattle.std.specs.Result.{result_unwrap_or}
+use Rattle.numerics.specs.Extrema.{max}
+use Rattle.numerics.specs.Binary64.{◌⊕◌}
+use Rattle.refusal.specs.declared.Refusal.{Refusal}
+use Rattle.refusal.specs.declared.Refusal.TheVariants.{Damping, WeakCount, Full}
+use Rattle.point_block.specs.Damping.{good_damping}
+use Rattle.linearization.specs.declared.linearize.LocalLinearization.{LocalLinearization}
+use Rattle.schur.specs.GradientNorm.{point_gradient_norm}
+use Rattle.schur.specs.PoseModel.{sum5, diagonal5}
+use Rattle.schur.specs.declared.reduced_system.ReducedSystem.{ReducedSystem}
+use Rattle.schur.specs.declared.elimination.block_elimination.Change.{Change}
+use Rattle.schur.specs.BlockElimination.{eliminate}
+
+-- the most blocks that a system takes in
+abbrev pub max_blocks : ℕ
+max_blocks = 65535
+
+-- a system that takes one more block in: rows 12 and 13 do not refuse it
+abbrev pub Free : ReducedSystem → Type 0
+Free s = (s.block_count < max_blocks) × (s.weak_point_count ≤ s.block_count)
+
+-- ---- taking a block in
+
+abbrev pub raised : Bool → ℕ → ℕ
+raised b n = cond b (suc n) n
+
+-- The system with the block's costs, pose terms and gradient norm taken in, as every block is, and with what the elimination of its point changes. A block that does not factor
+-- clears the flag.
+unfoldable pub taken_with : ReducedSystem → LocalLinearization → Change → ℕ → ReducedSystem
+taken_with s b e weak = record {
+  hessian = e.hessian;
+  gradient = e.gradient;
+  cost = s.cost ⊕ b.cost;
+  squared_residual = s.squared_residual ⊕ b.squared_residual;
+  full_pose_gradient = sum5 s.full_pose_gradient b.pose_gradient;
+  pose_diagonal = sum5 s.pose_diagonal (diagonal5 b.pose_hessian);
+  point_model_reduction = e.point_model_reduction;
+  scaled_point_gradient_inf_norm = max s.scaled_point_gradient_inf_norm (point_gradient_norm b.point_gradient b.point_hessian);
+  weak_point_count = weak;
+  minimum_point_rcond = e.minimum_point_rcond;
+  valid = s.valid && e.factored;
+  block_count = suc s.block_count;
+}
+
+-- a block taken in, once the elimination of its point is known
+abbrev pub taken_by : ReducedSystem → LocalLinearization → Change → ReducedSystem
+taken_by s b e = taken_with s b e (raised e.weak s.weak_point_count)
+
+unfoldable pub taken : ReducedSystem → LocalLinearization → Float → ReducedSystem
+taken s b damping = taken_by s b (eliminate s b damping)
+
+-- `add` tests rows 3, 12, 13
+unfoldable pub add : ReducedSystem → LocalLinearization → Float → Result ReducedSystem Refusal
+add s b damping =
+    cond (good_damping damping)
+    (cond (leb s.weak_point_count s.block_count) (cond (ltb s.block_count max_blocks) (Ok (taken s b damping)) (Err Full)) (Err WeakCount))
+    (Err Damping)
+
+-- the system that a call leaves its caller with: the one handed back, and, where it is refused, the one that the caller had
+abbrev pub handed_back : ReducedSystem → Result ReducedSystem Refusal → ReducedSystem
+handed_back s r = result_unwrap_or r s

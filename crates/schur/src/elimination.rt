@@ -1,0 +1,99 @@
+// SPDX-FileCopyrightText: 2026 Pierre Moulon and OpenMVG Rust contributors
+// SPDX-License-Identifier: MIT OR Apache-2.0
+
+// What a block makes of the equations of the pose, once its point is eliminated: `add` of
+// kernel/two_view/schur.rs.
+
+mod block_elimination;
+
+ghost use Rattle.std.specs.Prelude.{◌≡◌, ◌<◌};
+ghost use Rattle.schur.specs.Elimination as Elimination;
+
+pub use block_elimination::{Change, eliminate};
+use linearization::LocalLinearization;
+use point_block::PointBlockFactor;
+use std::array;
+
+// The Hessian of the pose, with the block's less what the point takes up of it
+pub fn reduced_hessian(
+    h: [f64; 25],
+    factor: PointBlockFactor,
+    local: LocalLinearization,
+) -> [f64; 25]
+    ensures { result ≡ Elimination.reduced_hessian h factor.inverse local }
+{
+    let p = local.pose_hessian;
+    let c = local.cross_hessian;
+    let term = schur_term(factor, c);
+    array::from_fn(|k| h[k] + (p[k] - term[k]))
+}
+
+// The cross Hessian times the inverse times the cross Hessian's transpose
+#[tactic(auto, using(numerics::proofs::Fill::array_none, numerics::proofs::Fill::row_of_five))]
+fn schur_term(factor: PointBlockFactor, c: [f64; 15]) -> [f64; 25]
+    ensures { result ≡ Elimination.schur_term factor.inverse c }
+{
+    let x0 = factor.solve(cross_row(c, 0));
+    let x1 = factor.solve(cross_row(c, 1));
+    let x2 = factor.solve(cross_row(c, 2));
+    let x3 = factor.solve(cross_row(c, 3));
+    let x4 = factor.solve(cross_row(c, 4));
+    // a row at a time: entry by entry is slower
+    let mut out = [0.0; 25];
+    for i in 0..5 {
+        let row = cross_row(c, i);
+        out[5 * i] = dot3(row, x0);
+        out[5 * i + 1] = dot3(row, x1);
+        out[5 * i + 2] = dot3(row, x2);
+        out[5 * i + 3] = dot3(row, x3);
+        out[5 * i + 4] = dot3(row, x4);
+    }
+    out
+}
+
+#[tactic(auto, unfolding(crate::specs::Elimination::reduced_gradient))]
+pub fn reduced_gradient(
+    g: [f64; 5],
+    factor: PointBlockFactor,
+    local: LocalLinearization,
+) -> [f64; 5]
+    ensures { result ≡ Elimination.reduced_gradient g factor.inverse local }
+{
+    let p = local.pose_gradient;
+    let c = local.cross_hessian;
+    let x = inverse_gradient(factor, local);
+    array::from_fn(|i| g[i] + (p[i] - dot3(cross_row(c, i), x)))
+}
+
+#[tactic(auto, unfolding(crate::specs::Elimination::point_reduction))]
+pub fn point_reduction(reduction: f64, factor: PointBlockFactor, local: LocalLinearization) -> f64
+    ensures { result ≡ Elimination.point_reduction reduction factor.inverse local }
+{
+    let gradient = local.point_gradient;
+    reduction + 0.5 * dot3(gradient, inverse_gradient(factor, local))
+}
+
+#[tactic(auto, unfolding(crate::specs::Elimination::inverse_gradient))]
+fn inverse_gradient(factor: PointBlockFactor, local: LocalLinearization) -> [f64; 3]
+    ensures { result ≡ Elimination.inverse_gradient factor.inverse local }
+{
+    let gradient = local.point_gradient;
+    factor.solve(gradient)
+}
+
+// Row i of five rows of three
+#[tactic(auto, unfolding(crate::specs::Elimination::cross_row))]
+fn cross_row(cross: [f64; 15], i: usize) -> [f64; 3]
+    requires { i < 5 }
+    ensures { result ≡ Elimination.cross_row cross i }
+{
+    array::from_fn(|j| cross[3 * i + j])
+}
+
+// Not `vectors::dot`, which begins at −0
+#[tactic(auto, unfolding(crate::specs::Elimination::dot3))]
+fn dot3(x: [f64; 3], y: [f64; 3]) -> f64
+    ensures { result ≡ Elimination.dot3 x y }
+{
+    x[0] * y[0] + x[1] * y[1] + x[2] * y[2]
+}

@@ -1,0 +1,49 @@
+// SPDX-FileCopyrightText: 2026 Pierre Moulon and OpenMVG Rust contributors
+// SPDX-License-Identifier: MIT OR Apache-2.0
+
+// `scaled_gradient_inf_norm` of schur.rs: the largest entry of a gradient, each scaled by the root of its
+// curvature.
+
+ghost use Rattle.std.specs.Prelude.{◌≡◌, ◌<◌};
+ghost use Rattle.schur.specs.GradientNorm as GradientNorm;
+ghost use Rattle.numerics.specs.Vectors.{◌!◌};
+
+use numerics::extrema;
+use std::array;
+
+#[tactic(auto, unfolding(crate::specs::GradientNorm::point_gradient_norm))]
+pub fn point_gradient_norm(gradient: [f64; 3], hessian: [f64; 9]) -> f64
+    ensures { result ≡ GradientNorm.point_gradient_norm gradient hessian }
+{
+    norm(gradient, [hessian[0], hessian[4], hessian[8]])
+}
+
+pub fn norm<const N: usize>(g: [f64; N], d: [f64; N]) -> f64
+    ensures { result ≡ GradientNorm.scaled_gradient_inf_norm N g.entry d.entry }
+{
+    let scale = extrema::largest(d);
+    if !numerics::positive_finite(scale) {
+        return unscaled(g.iter().all(|x| *x == 0.0));
+    }
+    let floor = numerics::EPSILON64 * scale;
+    extrema::largest::<N>(array::from_fn(
+        |i|
+            requires { i < N }
+            ensures { GradientNorm.Scaled (g ! i) (d ! i) floor result }
+        { scaled(g[i], d[i], floor) },
+    ))
+}
+
+// Without a scale: 0 for an all-zero gradient, else +∞
+#[tactic(auto, using(crate::proofs::Norms::infinite), unfolding(crate::specs::GradientNorm::unscaled))]
+fn unscaled(all_zero: bool) -> f64
+    ensures { result ≡ GradientNorm.unscaled all_zero }
+{
+    if all_zero { 0.0 } else { f64::INFINITY }
+}
+
+fn scaled(value: f64, curvature: f64, floor: f64) -> f64
+    ensures { GradientNorm.Scaled value curvature floor result }
+{
+    numerics::abs(value) / root::sqrt(extrema::larger(floor, curvature))
+}

@@ -1,0 +1,97 @@
+// SPDX-FileCopyrightText: 2026 Pierre Moulon and OpenMVG Rust contributors
+// SPDX-License-Identifier: MIT OR Apache-2.0
+
+// How a point moves with a step of the pose: `point_step_with_damping_norm` of kernel/two_view/schur.rs.
+
+ghost use Rattle.std.specs.Prelude.{◌≡◌, ◌<◌};
+ghost use Rattle.schur.specs.PointStep as Steps;
+
+use crate::pose_model;
+use linearization::{LocalLinearization, PointTerms};
+use numerics::vectors;
+use point_block::{PointBlockFactor, point_damping};
+use refusal::Refusal;
+use std::array;
+
+// A point's step and its damping norm
+#[derive(Clone, Copy)]
+pub struct PointStep {
+    pub step: [f64; 3],
+    pub damping_norm: f64,
+}
+
+// Tests row 3, then row 10.
+#[tactic(auto, unfolding(crate::specs::PointStep::point_step))]
+pub fn point_step_with_damping_norm(
+    local: LocalLinearization,
+    damping: f64,
+    pose_step: [f64; 5],
+) -> Result<PointStep, Refusal>
+    ensures { result ≡ Steps.point_step local damping pose_step }
+{
+    step_of_terms(PointTerms::from(local), damping, pose_step)
+}
+
+// The same from what a step needs of the block
+#[tactic(auto, unfolding(crate::specs::PointStep::step_of_terms))]
+pub fn step_of_terms(
+    terms: PointTerms,
+    damping: f64,
+    pose_step: [f64; 5],
+) -> Result<PointStep, Refusal>
+    ensures { result ≡ Steps.step_of_terms terms damping pose_step }
+{
+    point_damping::check_damping(damping)?;
+    let factor = PointBlockFactor::factor(terms.point_hessian, damping)?;
+    stepped(factor, terms, pose_step)
+}
+
+#[tactic(auto, unfolding(crate::specs::PointStep::stepped))]
+fn stepped(
+    factor: PointBlockFactor,
+    terms: PointTerms,
+    pose_step: [f64; 5],
+) -> Result<PointStep, Refusal>
+    ensures { result ≡ Steps.stepped factor.inverse terms pose_step }
+{
+    let step = step_of(factor, terms, pose_step);
+    let diagonal = point_damping::damping_diagonal(terms.point_hessian)?;
+    Ok(PointStep {
+        step,
+        damping_norm: damping_norm(diagonal, step),
+    })
+}
+
+#[tactic(auto, unfolding(crate::specs::PointStep::step_of))]
+fn step_of(factor: PointBlockFactor, terms: PointTerms, pose_step: [f64; 5]) -> [f64; 3]
+    ensures { result ≡ Steps.step_of factor.inverse terms pose_step }
+{
+    let x = factor.solve(right_hand_side(terms, pose_step));
+    x.map(|v| -v)
+}
+
+// The point's gradient with what the pose's step adds to it
+#[tactic(auto, unfolding(crate::specs::PointStep::right_hand_side))]
+fn right_hand_side(terms: PointTerms, pose_step: [f64; 5]) -> [f64; 3]
+    ensures { result ≡ Steps.right_hand_side terms pose_step }
+{
+    let g = terms.point_gradient;
+    let c = terms.cross_hessian;
+    array::from_fn(|i| g[i] + pose_model::dot5(cross_column(c, i), pose_step))
+}
+
+// Column i of five rows of three
+#[tactic(auto, unfolding(crate::specs::PointStep::cross_column))]
+fn cross_column(cross: [f64; 15], i: usize) -> [f64; 5]
+    requires { i < 3 }
+    ensures { result ≡ Steps.cross_column cross i }
+{
+    array::from_fn(|j| cross[3 * j + i])
+}
+
+#[tactic(auto, unfolding(crate::specs::PointStep::damping_norm))]
+fn damping_norm(diagonal: [f64; 3], step: [f64; 3]) -> f64
+    ensures { result ≡ Steps.damping_norm diagonal step }
+{
+    vectors::dot(array::from_fn(|i| diagonal[i] * step[i]), step)
+}

@@ -1,0 +1,112 @@
+// SPDX-FileCopyrightText: 2026 Pierre Moulon and OpenMVG Rust contributors
+// SPDX-License-Identifier: MIT OR Apache-2.0
+
+// The reduced system: the 5 by 5 equations of the pose once each point is eliminated, `ReducedSystem` of
+// kernel/two_view/schur.rs. Here is what is asked of it; `schur` takes blocks in.
+
+ghost use Rattle.std.specs.Prelude.{◌≡◌};
+ghost use Rattle.schur.specs.Model as Model;
+
+use crate::{gradient_norm, pose_model};
+use numerics::{extrema, vectors};
+use point_block::point_damping;
+use refusal::Refusal;
+
+#[derive(Clone, Copy)]
+pub struct ReducedSystem {
+    pub hessian: [f64; 25],
+    pub gradient: [f64; 5],
+    pub cost: f64,
+    pub squared_residual: f64,
+    pub full_pose_gradient: [f64; 5],
+    pub pose_diagonal: [f64; 5],
+    pub point_model_reduction: f64,
+    pub scaled_point_gradient_inf_norm: f64,
+    pub weak_point_count: u16,
+    pub minimum_point_rcond: f64,
+    // the Rust's own flag: the sums are there whether it is set or not
+    pub valid: bool,
+    pub block_count: u16,
+}
+
+impl ReducedSystem {
+    #[tactic(auto, unfolding(crate::specs::Model::new_system))]
+    pub fn new() -> Self
+        ensures { result ≡ Model.new_system }
+    {
+        Self {
+            hessian: [0.0; 25],
+            gradient: [0.0; 5],
+            cost: 0.0,
+            squared_residual: 0.0,
+            full_pose_gradient: [0.0; 5],
+            pose_diagonal: [0.0; 5],
+            point_model_reduction: 0.0,
+            scaled_point_gradient_inf_norm: 0.0,
+            weak_point_count: 0,
+            minimum_point_rcond: 1.0,
+            valid: true,
+            block_count: 0,
+        }
+    }
+
+    // Adds the damping to the pose's diagonal. Tests row 3.
+    #[tactic(auto, unfolding(crate::specs::Model::finish_damping))]
+    pub fn finish_damping(self, damping: f64) -> Result<Self, Refusal>
+        ensures { result ≡ Model.finish_damping self damping }
+    {
+        point_damping::check_damping(damping)?;
+        let hessian = pose_model::damped_hessian(self.hessian, self.pose_diagonal, damping);
+        Ok(self.with_hessian(hessian))
+    }
+
+    // Whether every block taken in factored, and the equations are finite
+    #[tactic(auto, unfolding(crate::specs::Model::is_valid))]
+    pub fn is_valid(self) -> bool
+        ensures { result ≡ Model.is_valid self }
+    {
+        self.valid & vectors::all_finite(&self.gradient) & vectors::all_finite(&self.hessian)
+    }
+
+    // The largest scaled gradient entry of all points and of the pose
+    #[tactic(auto, unfolding(crate::specs::Model::gradient_inf_norm))]
+    pub fn scaled_gradient_inf_norm(self) -> f64
+        ensures { result ≡ Model.gradient_inf_norm self }
+    {
+        let pose = gradient_norm::norm(self.full_pose_gradient, self.pose_diagonal);
+        extrema::max(self.scaled_point_gradient_inf_norm, pose)
+    }
+
+    // What a step of the pose is predicted to gain. Tests row 3.
+    #[tactic(auto, unfolding(crate::specs::Model::predicted_reduction))]
+    pub fn predicted_reduction(
+        self,
+        step: [f64; 5],
+        damping: f64,
+        point_damping_norm: f64,
+    ) -> Result<f64, Refusal>
+        ensures { result ≡ Model.predicted_reduction self step damping point_damping_norm }
+    {
+        let checked = point_damping::check_damping(damping);
+        checked.map(|()| self.reduction_of(step, damping, point_damping_norm))
+    }
+
+    #[tactic(auto, unfolding(crate::specs::Model::reduction_of))]
+    fn reduction_of(self, step: [f64; 5], damping: f64, point_damping_norm: f64) -> f64
+        ensures { result ≡ Model.reduction_of self step damping point_damping_norm }
+    {
+        let undamped = self.point_model_reduction
+            - pose_model::dot5(self.gradient, step)
+            - 0.5 * pose_model::quadratic(self.hessian, step);
+        let damping_norm = pose_model::pose_damping_norm(self.pose_diagonal, step);
+        undamped + 0.5 * damping * (damping_norm + point_damping_norm)
+    }
+
+    #[tactic(auto, unfolding(crate::specs::Model::with_hessian))]
+    fn with_hessian(mut self, hessian: [f64; 25]) -> Self
+        ensures { result ≡ Model.with_hessian self hessian }
+    {
+        self.hessian = hessian;
+        self
+    }
+}

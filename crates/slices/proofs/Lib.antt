@@ -1,2 +1,0 @@
--- Laws of numbers read from lent slices, and copied to them.
-pub mod Laws

@@ -1,2 +1,0 @@
--- Numbers of lent slices.
-pub mod Slices

@@ -1,2 +1,0 @@
--- What the calls on a lent system answer.
-pub mod Calls

@@ -1,2 +1,0 @@
--- Laws of lists of numbers.
-mod Products

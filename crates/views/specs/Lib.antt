@@ -1,2 +1,0 @@
--- Both views of a point: schur.rs.
-pub mod Views
