@@ -1,7 +1,7 @@
 -- The cost and the squared residual of every made block, and of the block that is +0 everywhere, are numbers not below zero. Assumes nothing.
-use mathlib.Core.Path.{◌≡◌, refl}
+use mathlib.Core.Path.{◌≡◌, refl, subst}
 use mathlib.Core.Bool.{Bool, true, false, not, ◌&&◌, cond}
-use mathlib.Core.List.{List}
+use mathlib.Core.List.{List, [], ◌∷◌}
 use lib.Dec.{T}
 use lib.Ieee.{Float, binary64, lt, le}
 use lib.Ieee.Fits.{and_l, and_r}
@@ -12,23 +12,24 @@ use Rattle.std.proofs.lemmas.Float.{lt_of_not-le}
 use Rattle.numerics.proofs.Order.{nonneg_add, nonneg_not_nan, nonneg_square}
 use Rattle.numerics.proofs.Monotone.{nonneg_zero, finite_not_nan, nonneg_mul_weight, nonneg_half_square}
 use Rattle.root.proofs.Signs.{nonneg_sum_squares}
-use Rattle.std.specs.Prelude.{Result, Ok, Err}
+use Rattle.std.specs.Prelude.{Result, Ok, Err, is_ok}
+use Rattle.std.specs.Result.{result_and}
+use Rattle.refusal.specs.First.{unless, first_of}
 use Rattle.refusal.specs.declared.View.TheVariants.{First, Second}
 use Rattle.refusal.specs.declared.Refusal.{Refusal}
-use Rattle.refusal.specs.declared.Refusal.TheVariants.{InverseDeviation}
-use Rattle.projection.specs.Pose.{rotate, camera_point}
-use Rattle.projection.specs.Projection.{all_finite, pixel_projection}
+use Rattle.refusal.specs.declared.Refusal.TheVariants.{InverseDeviation, Projection}
+use Rattle.projection.specs.Pose.{rotate}
+use Rattle.projection.specs.Projection.{linearized, all_finite, pixel_projection}
 use Rattle.projection.specs.declared.Projected.{Projected}
-use Rattle.projection.proofs.Laws.{projection_finite}
+use Rattle.projection.specs.declared.PinholeCamera.{PinholeCamera}
+use Rattle.projection.proofs.Laws.{projected_is, projection_finite}
 use Rattle.linearization.specs.declared.linearize.LocalLinearization.{LocalLinearization}
 use Rattle.linearization.specs.declared.views.Pose.{Pose}
 use Rattle.linearization.specs.declared.views.Rig.{Rig}
 use Rattle.linearization.specs.declared.views.Correspondence.{Correspondence}
-use Rattle.linearization.specs.declared.views.LinearizedViews.{LinearizedViews}
 use Rattle.linearization.specs.Loss.{norm, loss_cost}
-use Rattle.linearization.specs.Views.{good_deviation, weighted_views, seen, linearize_views}
-use Rattle.refusal.specs.Refused.{map_ok}
-use Rattle.linearization.specs.Linearize.{no_block, block_or_zeros, sums, block, linearize_point}
+use Rattle.linearization.specs.Views.{good_deviation, weighted_views, moved, views_of, check_views}
+use Rattle.linearization.specs.Linearize.{no_block, block_or_zeros, sums, block, block_of, linearize_point}
 
 abbrev pub Costs : LocalLinearization → Type 0
 Costs b = T (nonneg b.cost) × T (nonneg b.squared_residual)
@@ -75,27 +76,25 @@ pub no_block_costs : Costs no_block
 unfolding no_block
 no_block_costs = (nonneg_zero binary64, nonneg_zero binary64)
 
--- the block of both views, or none
-abbrev block_of : Result LinearizedViews Refusal → Float → LocalLinearization
-block_of v w = block_or_zeros (map_ok (λ x. block x w) v)
+-- what is projected is finite
+projected_finite : (camera : PinholeCamera) (observation point : List Float) (p : Projected) → pixel_projection camera observation point ≡ Ok p → T (all_finite (linearized camera observation point))
+projected_finite camera observation point p e =
+    subst (λ (q : Projected). T (all_finite q)) (projected_is camera observation point p e) (projection_finite camera observation point p e)
 
 pub made_costs : (rig : Rig) (correspondence : Correspondence) → Costs (block_or_zeros (linearize_point rig correspondence))
-unfolding linearize_point linearize_views
-made_costs rig correspondence = by (good_deviation w) (pixel_projection rig.camera1 correspondence.view1 correspondence.point) (pixel_projection rig.camera2 correspondence.view2 moved) refl refl refl
+unfolding linearize_point check_views block_of views_of
+made_costs rig correspondence = by (good_deviation w) (pixel_projection rig.camera1 correspondence.view1 correspondence.point) (pixel_projection rig.camera2 correspondence.view2 (moved rig correspondence)) refl refl refl
   where
     w : Float
     w = correspondence.inverse_deviation
 
-    rotated : List Float
-    rotated = rotate rig.pose.rotation correspondence.point
-
-    moved : List Float
-    moved = camera_point rotated rig.pose.translation
-
-    by : (g : Bool) (a b : Result Projected Refusal) → good_deviation w ≡ g → pixel_projection rig.camera1 correspondence.view1 correspondence.point ≡ a → pixel_projection rig.camera2 correspondence.view2 moved ≡ b
-        → Costs (block_of (cond g (seen First a (λ p. seen Second b (λ q. Ok (weighted_views p q rotated rig.pose w)))) (Err (InverseDeviation 0))) w)
+    by : (g : Bool) (a b : Result Projected Refusal) → good_deviation w ≡ g → pixel_projection rig.camera1 correspondence.view1 correspondence.point ≡ a
+        → pixel_projection rig.camera2 correspondence.view2 (moved rig correspondence) ≡ b
+        → Costs (block_or_zeros (result_and (first_of (unless g (InverseDeviation 0) ∷ unless (is_ok a) (Projection First 0) ∷ unless (is_ok b) (Projection Second 0) ∷ [])) (Ok (block_of rig correspondence))))
     by true (Ok p) (Ok q) e f g =
-        block_costs p q rotated rig.pose w (rw e tt) (projection_finite rig.camera1 correspondence.view1 correspondence.point p f) (projection_finite rig.camera2 correspondence.view2 moved q g)
+        block_costs _ _ (rotate rig.pose.rotation correspondence.point) rig.pose w (rw e tt)
+        (projected_finite rig.camera1 correspondence.view1 correspondence.point p f)
+        (projected_finite rig.camera2 correspondence.view2 (moved rig correspondence) q g)
     by true (Ok p) (Err r) e f g = no_block_costs
     by true (Err r) b e f g = no_block_costs
     by false a b e f g = no_block_costs

@@ -1,8 +1,8 @@
 -- `linearize_point` of schur.rs with `Loss::L2`, the block maker of document 01: both views or their refusal, then the block.
 use Rattle.std.specs.Prelude.{List, Float, Result, Ok, Err}
+use Rattle.std.specs.Result.{result_and}
 use Rattle.numerics.specs.Binary64.{◌⊕◌, ◌⊗◌, zero}
 use Rattle.numerics.specs.Vectors.{tabulate, zeros}
-use Rattle.refusal.specs.Refused.{map_ok}
 use Rattle.refusal.specs.declared.Refusal.{Refusal}
 use Rattle.linearization.specs.declared.linearize.LocalLinearization.{LocalLinearization}
 use Rattle.linearization.specs.declared.terms.PointTerms.{PointTerms}
@@ -12,7 +12,7 @@ use Rattle.linearization.specs.declared.views.View1.{View1}
 use Rattle.linearization.specs.declared.views.View2.{View2}
 use Rattle.linearization.specs.declared.views.LinearizedViews.{LinearizedViews}
 use Rattle.linearization.specs.Loss.{norm, loss_cost}
-use Rattle.linearization.specs.Views.{linearize_views}
+use Rattle.linearization.specs.Views.{views_of, check_views}
 use Rattle.linearization.specs.Accumulate.{pose_hessian, cross_hessian, point_hessian, pose_gradient, point_gradient}
 
 -- +0 everywhere: what stands for the block of a refused point
@@ -66,8 +66,13 @@ block v inverse_deviation =
     let n = norm v.residual2 in
     sums v (zero ⊕ loss_cost (m ⊗ inverse_deviation) ⊕ loss_cost (n ⊗ inverse_deviation)) (zero ⊕ m ⊗ m ⊕ n ⊗ n)
 
+-- the block of a correspondence by the formulas alone, whether its views are tested or not
+unfoldable pub block_of : Rig → Correspondence → LocalLinearization
+block_of rig correspondence = block (views_of rig correspondence) correspondence.inverse_deviation
+
+-- row 4, then row 9 with view 1 or 2, then the block
 unfoldable pub linearize_point : Rig → Correspondence → Result LocalLinearization Refusal
-linearize_point rig correspondence = map_ok (λ v. block v correspondence.inverse_deviation) (linearize_views rig correspondence)
+linearize_point rig correspondence = result_and (check_views rig correspondence) (Ok (block_of rig correspondence))
 
 -- the same terms of a block that is made
 unfoldable pub point_terms : LocalLinearization → PointTerms

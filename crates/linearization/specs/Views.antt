@@ -1,15 +1,16 @@
 -- The two views of a point in `linearize_point` of schur.rs: row 4, then row 9 with view 1 or 2, then the weighted rows of each view.
-use Rattle.std.specs.Prelude.{ℕ, Bool, not, ◌&&◌, cond, List, Float, Result, Ok, Err}
+use Rattle.std.specs.Prelude.{ℕ, Bool, not, ◌&&◌, List, [], ◌∷◌, Float, Result, Ok, is_ok}
+use Rattle.std.specs.Result.{result_and}
 use Rattle.std.specs.Float.Ieee.{le}
 use Rattle.numerics.specs.Binary64.{◌⊗◌, zero}
 use Rattle.numerics.specs.Parts.{is_finite}
 use Rattle.numerics.specs.Vectors.{◌!◌, tabulate}
-use Rattle.refusal.specs.declared.View.{View}
+use Rattle.refusal.specs.First.{Checked, unless, first_of}
 use Rattle.refusal.specs.declared.View.TheVariants.{First, Second}
 use Rattle.refusal.specs.declared.Refusal.{Refusal}
 use Rattle.refusal.specs.declared.Refusal.TheVariants.{InverseDeviation, Projection}
 use Rattle.projection.specs.Pose.{rotate, camera_point}
-use Rattle.projection.specs.Projection.{pixel_projection}
+use Rattle.projection.specs.Projection.{linearized, pixel_projection}
 use Rattle.projection.specs.declared.Projected.{Projected}
 use Rattle.linearization.specs.declared.views.Pose.{Pose}
 use Rattle.linearization.specs.declared.views.Rig.{Rig}
@@ -60,18 +61,27 @@ weighted_views first second rotated pose inverse_deviation = record {
   residual2 = second.residual;
 }
 
--- what follows a projection into a view, or row 9 with that view
-abbrev pub seen : View → Result Projected Refusal → (Projected → Result LinearizedViews Refusal) → Result LinearizedViews Refusal
-seen view (Ok p) next = next p
-seen view (Err _) next = Err (Projection view 0)
+-- the point in the second camera's frame
+abbrev pub moved : Rig → Correspondence → List Float
+moved rig correspondence = camera_point (rotate rig.pose.rotation correspondence.point) rig.pose.translation
+
+-- both views by the formulas alone, whether they are tested or not
+unfoldable pub views_of : Rig → Correspondence → LinearizedViews
+views_of rig correspondence =
+    weighted_views (linearized rig.camera1 correspondence.view1 correspondence.point)
+    (linearized rig.camera2 correspondence.view2 (moved rig correspondence))
+    (rotate rig.pose.rotation correspondence.point)
+    rig.pose
+    correspondence.inverse_deviation
+
+-- row 4, then row 9 with view 1, then with view 2
+unfoldable pub check_views : Rig → Correspondence → Checked
+check_views rig correspondence =
+    first_of (
+    unless (good_deviation correspondence.inverse_deviation) (InverseDeviation 0)
+    ∷ unless (is_ok (pixel_projection rig.camera1 correspondence.view1 correspondence.point)) (Projection First 0)
+    ∷ unless (is_ok (pixel_projection rig.camera2 correspondence.view2 (moved rig correspondence))) (Projection Second 0)
+    ∷ [])
 
 unfoldable pub linearize_views : Rig → Correspondence → Result LinearizedViews Refusal
-linearize_views rig correspondence =
-    let pose = rig.pose in
-    let rotated = rotate pose.rotation correspondence.point in
-    let moved = camera_point rotated pose.translation in
-    cond (good_deviation correspondence.inverse_deviation)
-    (seen First (pixel_projection rig.camera1 correspondence.view1 correspondence.point)
-    (λ first. seen Second (pixel_projection rig.camera2 correspondence.view2 moved)
-    (λ second. Ok (weighted_views first second rotated pose correspondence.inverse_deviation))))
-    (Err (InverseDeviation 0))
+linearize_views rig correspondence = result_and (check_views rig correspondence) (Ok (views_of rig correspondence))

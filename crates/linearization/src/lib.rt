@@ -12,5 +12,5 @@ pub mod loss;
 mod terms;
 pub mod views;
 
-pub use linearize::{LocalLinearization, NO_BLOCK, linearize_point};
-pub use terms::{PointTerms, point_terms};
+pub use linearize::{LocalLinearization, block_of, linearize_point};
+pub use terms::{PointTerms, terms_of};

@@ -22,19 +22,8 @@ pub struct LocalLinearization {
     pub squared_residual: f64,
 }
 
-// +0 everywhere: what stands for the block of a refused point
-pub const NO_BLOCK: LocalLinearization = LocalLinearization {
-    pose_hessian: [0.0; 25],
-    cross_hessian: [0.0; 15],
-    point_hessian: [0.0; 9],
-    pose_gradient: [0.0; 5],
-    point_gradient: [0.0; 3],
-    cost: 0.0,
-    squared_residual: 0.0,
-};
-
 // The block of a correspondence. Tests row 4, then row 9 with view 1 or 2.
-#[tactic(auto, unfolding(crate::specs::Linearize::linearize_point))]
+#[tactic(auto, unfolding(crate::specs::Linearize::linearize_point, crate::specs::Linearize::block_of, crate::specs::Views::linearize_views))]
 pub fn linearize_point(
     rig: Rig,
     correspondence: Correspondence,
@@ -43,6 +32,15 @@ pub fn linearize_point(
 {
     let views = views::linearize_views(rig, correspondence)?;
     Ok(block(views, correspondence.inverse_deviation))
+}
+
+/// The block of a correspondence by the formulas alone, for one that rows 4 and 9 are known to let
+/// through: there it is the block of `linearize_point`.
+#[tactic(auto, unfolding(crate::specs::Linearize::block_of))]
+pub fn block_of(rig: &Rig, correspondence: Correspondence) -> LocalLinearization
+    ensures { result ≡ Linearize.block_of rig.now correspondence }
+{
+    block(views::views_of(rig, correspondence), correspondence.inverse_deviation)
 }
 
 // The block of two views, with what each adds to the cost and to the squared residual

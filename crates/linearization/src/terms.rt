@@ -4,13 +4,11 @@
 // What the step of a point needs of its block: neither the pose's own terms nor the cost, so that
 // the second pass over the points makes no more than this.
 ghost use Rattle.std.specs.Prelude.{◌≡◌};
-ghost use Rattle.refusal.specs.Refused.{map_ok};
 ghost use Rattle.linearization.specs.Linearize as Linearize;
 
 use crate::linearize::LocalLinearization;
 use crate::views::{Correspondence, Rig, View1, View2};
 use crate::{accumulate, views};
-use refusal::Refusal;
 
 #[derive(Clone, Copy)]
 pub struct PointTerms {
@@ -19,13 +17,13 @@ pub struct PointTerms {
     pub point_gradient: [f64; 3],
 }
 
-// The terms of a correspondence's block. Tests row 4, then row 9 with view 1 or 2.
-#[tactic(auto, unfolding(crate::specs::Linearize::linearize_point, crate::specs::Linearize::point_terms, crate::specs::Linearize::block, crate::specs::Linearize::sums))]
-pub fn point_terms(rig: Rig, correspondence: Correspondence) -> Result<PointTerms, Refusal>
-    ensures { result ≡ map_ok Linearize.point_terms (Linearize.linearize_point rig correspondence) }
+/// The terms of the block that `block_of` makes of a correspondence
+#[tactic(auto, unfolding(crate::specs::Linearize::block_of, crate::specs::Linearize::point_terms, crate::specs::Linearize::block, crate::specs::Linearize::sums))]
+pub fn terms_of(rig: &Rig, correspondence: Correspondence) -> PointTerms
+    ensures { result ≡ Linearize.point_terms (Linearize.block_of rig.now correspondence) }
 {
-    let views = views::linearize_views(rig, correspondence)?;
-    Ok(terms(views.first, views.second))
+    let views = views::views_of(rig, correspondence);
+    terms(views.first, views.second)
 }
 
 // The terms of a block

@@ -67,7 +67,7 @@ pub struct LinearizedViews {
 }
 
 // Tests row 4, then row 9 with view 1 or 2, by `else` and not by `map_err`, which is slower here.
-#[tactic(auto, unfolding(crate::specs::Views::linearize_views))]
+#[tactic(auto, using(projection::proofs::Laws::projected_is), unfolding(crate::specs::Views::linearize_views, crate::specs::Views::check_views, crate::specs::Views::views_of))]
 pub fn linearize_views(rig: Rig, correspondence: Correspondence) -> Result<LinearizedViews, Refusal>
     ensures { result ≡ Views.linearize_views rig correspondence }
 {
@@ -100,6 +100,19 @@ pub fn linearize_views(rig: Rig, correspondence: Correspondence) -> Result<Linea
         });
     };
     Ok(weighted_views(first, second, rotated, pose, inverse_deviation))
+}
+
+/// Both views by the formulas alone, for a correspondence that rows 4 and 9 are known to let through
+#[tactic(auto, unfolding(crate::specs::Views::views_of))]
+pub(crate) fn views_of(rig: &Rig, correspondence: Correspondence) -> LinearizedViews
+    ensures { result ≡ Views.views_of rig.now correspondence }
+{
+    let pose = rig.pose;
+    let rotated = projection::rotate(pose.rotation, correspondence.point);
+    let moved = projection::camera_point(rotated, pose.translation);
+    let first = projection::linearized(rig.camera1, correspondence.view1, correspondence.point);
+    let second = projection::linearized(rig.camera2, correspondence.view2, moved);
+    weighted_views(first, second, rotated, pose, correspondence.inverse_deviation)
 }
 
 // Row 4 lets an inverse deviation through that is finite and above 0.

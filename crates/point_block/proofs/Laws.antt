@@ -1,6 +1,6 @@
 -- What holds of every factor. Assumes nothing.
-use Rattle.std.proofs.Common.{◌≡◌, refl, Bool, true, false, cond, List}
-use Rattle.std.specs.Prelude.{is_ok, Result, Ok, Err}
+use Rattle.std.proofs.Common.{◌≡◌, refl, sym, ap, Bool, true, false, cond, List, []}
+use Rattle.std.specs.Prelude.{is_ok, Result, Ok, Err, Some, None}
 use lib.Dec.{T}
 use lib.Ieee.{Float, binary64, lt}
 use lib.Ieee.Bits.{is_true}
@@ -10,11 +10,14 @@ use Rattle.numerics.specs.Parts.{is_finite, nonneg, positive_finite}
 use Rattle.numerics.proofs.Order.{nonneg_above, nonneg_recip}
 use Rattle.numerics.proofs.Monotone.{nonneg_zero}
 use Rattle.refusal.specs.declared.Refusal.{Refusal}
-use Rattle.point_block.specs.Damping.{good_damping}
+use Rattle.refusal.specs.declared.Refusal.TheVariants.{NotFactored}
+use Rattle.point_block.specs.Cholesky.{good_pivots, factor_of, inverse_by, invert}
+use Rattle.point_block.specs.Damping.{good_damping, largest_diagonal, floored, damping_diagonal, added_diagonal, damped_matrix}
+use Rattle.point_block.specs.Factor.{factor_damped}
 use Rattle.point_block.specs.declared.PointBlockFactor.{PointBlockFactor}
 use Rattle.point_block.specs.declared.LoneFactor.{LoneFactor}
 use Rattle.point_block.specs.Condition.{infinity_norm, inverse_matrix, reciprocal_condition_number}
-use Rattle.point_block.specs.Lone.{factor, lone_factor}
+use Rattle.point_block.specs.Lone.{factor, lone_factor, inverse_at}
 
 -- the lone factor gives the factor wherever there is one: nothing but the matrix and the damping decides whether there is
 pub lone_factors : (m : List Float) (damping : Float) → T (good_damping damping) → is_ok (lone_factor m damping) ≡ is_ok (factor m damping)
@@ -25,6 +28,37 @@ lone_factors m damping g = rw (is_true (good_damping damping) g) (by (factor m d
         → is_ok {T = LoneFactor} {E = Refusal} (elim f [ Ok g ↦ Ok (record { factor = g; rcond = reciprocal_condition_number g.inverse m }) | Err r ↦ Err r ]) ≡ is_ok f
     by (Ok f) = refl
     by (Err r) = refl
+
+-- the factor of a damped matrix is the inverse by the formulas alone
+damped_factor_is : (h : List Float) (f : PointBlockFactor) → factor_damped h ≡ Ok f → f.inverse ≡ inverse_by h (floored h)
+unfolding factor_damped invert
+damped_factor_is h f = by (good_pivots (factor_of h (floored h)))
+  where
+    factor_by : Bool → Result PointBlockFactor Refusal
+    factor_by good = elim (cond good (Some (inverse_by h (floored h))) None) [ Some i ↦ Ok (record { inverse = i }) | None ↦ Err NotFactored ]
+
+    by : (good : Bool) → factor_by good ≡ Ok f → f.inverse ≡ inverse_by h (floored h)
+    by true e = ap (λ (r : Result PointBlockFactor Refusal). inverse_in r) (sym e)
+      where
+        inverse_in : Result PointBlockFactor Refusal → List Float
+        inverse_in (Ok g) = g.inverse
+        inverse_in (Err r) = []
+    by false e = absurd (cc)
+
+-- so is that of a matrix at a damping
+pub factor_is : (m : List Float) (damping : Float) (f : PointBlockFactor) → factor m damping ≡ Ok f → f.inverse ≡ inverse_at m damping
+unfolding factor damped_matrix damping_diagonal
+factor_is m damping f = by (positive_finite (largest_diagonal m))
+  where
+    damped_by : Bool → Result (List Float) Refusal
+    damped_by good = elim (cond good (Ok (floored m)) (Err NotFactored)) [ Ok d ↦ Ok (added_diagonal m damping d) | Err r ↦ Err r ]
+
+    factor_by : Bool → Result PointBlockFactor Refusal
+    factor_by good = elim (damped_by good) [ Ok d ↦ factor_damped d | Err r ↦ Err r ]
+
+    by : (good : Bool) → factor_by good ≡ Ok f → f.inverse ≡ inverse_at m damping
+    by true e = damped_factor_is (added_diagonal m damping (floored m)) f e
+    by false e = absurd (cc)
 
 -- rcond is a number and never below zero
 pub rcond_nonneg : (i m : List Float) → T (nonneg (reciprocal_condition_number i m))

@@ -63,9 +63,14 @@ inverse_of l s =
     ∷ m₂₂ ⊗ m₂₂ ⊗ (d₂ ⊗ d₂)
     ∷ []
 
--- The inverse of a matrix by its factor at the scale of the roots of d, packed: 00, 10, 11, 20, 21, 22. None where a pivot is not good.
+-- the factor of a matrix at the scale of the roots of d
+abbrev pub factor_of : List Float → List Float → Factor
+factor_of m d = cholesky_of (scaled_of m (scale_of d))
+
+-- The inverse by that factor, packed: 00, 10, 11, 20, 21, 22. It is the formula alone, whether the pivots are good or not.
+unfoldable pub inverse_by : List Float → List Float → List Float
+inverse_by m d = inverse_of (factor_of m d).lower (scale_of d)
+
+-- none where a pivot is not good
 unfoldable pub invert : List Float → List Float → Option (List Float)
-invert m d =
-    let s = scale_of d in
-    let c = cholesky_of (scaled_of m s) in
-    cond (good_pivots c) (Some (inverse_of c.lower s)) None
+invert m d = cond (good_pivots (factor_of m d)) (Some (inverse_by m d)) None

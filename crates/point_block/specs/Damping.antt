@@ -1,16 +1,24 @@
 -- The damping of a 3 by 3 point block, `damping_diagonal` and `damped_matrix` of point_block.rs. A matrix is nine numbers, row by row.
 use Rattle.std.specs.Prelude.{Bool, not, ◌&&◌, cond, List, [], ◌∷◌, Float, Result, Ok, Err}
-use Rattle.std.specs.Float.Ieee.{lt}
+use Rattle.std.specs.Float.Ieee.{lt, eq}
 use Rattle.numerics.specs.Binary64.{◌⊕◌, ◌⊗◌, zero, epsilon64}
 use Rattle.numerics.specs.Parts.{is_finite, positive_finite}
 use Rattle.numerics.specs.Vectors.{◌!◌}
 use Rattle.numerics.specs.Extrema.{max, largest}
 use Rattle.refusal.specs.declared.Refusal.{Refusal}
-use Rattle.refusal.specs.declared.Refusal.TheVariants.{NotFactored}
+use Rattle.refusal.specs.declared.Refusal.TheVariants.{Damping, NotFactored}
 
 -- row 3: damping not finite or below 0
 unfoldable pub good_damping : Float → Bool
 good_damping damping = is_finite damping && not (lt damping zero)
+
+-- a damping that row 3 lets through, or its refusal
+abbrev pub valid_damping : Float → Result Float Refusal
+valid_damping damping = cond (good_damping damping) (Ok damping) (Err Damping)
+
+-- "Damping −0 counts as zero"
+abbrev pub is_zero : Float → Bool
+is_zero damping = eq damping zero
 
 unfoldable pub largest_diagonal : List Float → Float
 largest_diagonal m = largest (m ! 0 ∷ m ! 4 ∷ m ! 8 ∷ [])

@@ -2,15 +2,22 @@
 use Rattle.std.specs.Prelude.{cond, List, Float, Result, Ok, Err}
 use Rattle.refusal.specs.declared.Refusal.{Refusal}
 use Rattle.refusal.specs.declared.Refusal.TheVariants.{Damping}
-use Rattle.point_block.specs.Damping.{good_damping, damped_matrix}
+use Rattle.point_block.specs.Damping.{good_damping, floored, added_diagonal, damped_matrix}
 use Rattle.point_block.specs.declared.PointBlockFactor.{PointBlockFactor}
 use Rattle.point_block.specs.declared.LoneFactor.{LoneFactor}
+use Rattle.point_block.specs.Cholesky.{inverse_by}
 use Rattle.point_block.specs.Factor.{factor_damped}
 use Rattle.point_block.specs.Condition.{reciprocal_condition_number}
 
 -- the factor of the damped matrix; it depends on the matrix and the damping alone
 unfoldable pub factor : List Float → Float → Result PointBlockFactor Refusal
 factor m damping = elim (damped_matrix m damping) [ Ok d ↦ factor_damped d | Err r ↦ Err r ]
+
+-- the packed inverse of the damped matrix by the formulas alone: that of the factor, where there is one
+abbrev pub inverse_at : List Float → Float → List Float
+inverse_at m damping =
+    let damped = added_diagonal m damping (floored m) in
+    inverse_by damped (floored damped)
 
 -- the rcond is that of the matrix as handed in, undamped
 unfoldable pub lone_factor : List Float → Float → Result LoneFactor Refusal

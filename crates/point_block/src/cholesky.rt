@@ -37,7 +37,7 @@ struct Factor {
 
 // The inverse of a matrix by its Cholesky factor, which is worked out at the scale of the roots of d:
 // packed lower triangle, 00, 10, 11, 20, 21, 22. None where a pivot is not good.
-#[tactic(auto, unfolding(crate::specs::Cholesky::invert))]
+#[tactic(auto, unfolding(crate::specs::Cholesky::invert, crate::specs::Cholesky::inverse_by))]
 pub fn invert(m: [f64; 9], d: [f64; 3]) -> Option<[f64; 6]>
     ensures { result ≡ Cholesky.invert m d }
 {

@@ -14,6 +14,7 @@ ghost use Rattle.point_block.specs.Factor as Factor;
 ghost use Rattle.point_block.specs.Lone as Lone;
 
 use numerics::extrema;
+use point_damping::ValidDamping;
 use refusal::Refusal;
 
 // The inverse of a symmetric 3 by 3 block, packed lower triangle: 00, 10, 11, 20, 21, 22
@@ -35,7 +36,7 @@ impl PointBlockFactor {
     pub fn new(matrix: [f64; 9], damping: f64) -> Result<LoneFactor, Refusal>
         ensures { result ≡ Lone.lone_factor matrix damping }
     {
-        point_damping::check_damping(damping)?;
+        ValidDamping::new(damping)?;
         let factor = Self::factor(matrix, damping)?;
         let rcond = factor.reciprocal_condition_number(matrix);
         Ok(LoneFactor { factor, rcond })

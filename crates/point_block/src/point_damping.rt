@@ -4,30 +4,64 @@
 // The damping of a symmetric 3 by 3 point block: kernel/point_block.rs. A matrix is nine numbers, row by
 // row.
 
-ghost use Rattle.std.specs.Prelude.{◌≡◌};
+ghost use Rattle.std.specs.Prelude.{◌≡◌, T};
 ghost use Rattle.point_block.specs.Damping as Damping;
-ghost use Rattle.refusal.specs.First as First;
 
 use numerics::extrema;
 use refusal::Refusal;
+use std::marker::Model;
 
-// Row 3 lets a damping through that is finite and not below 0.
+// A damping that row 3 lets through: finite and not below 0
+#[derive(Clone, Copy)]
+pub struct ValidDamping {
+    value: f64,
+}
+
+impl Model for ValidDamping {
+    ghost use Rattle.std.specs.Prelude.{T, Float};
+    ghost use Rattle.point_block.specs.Damping.{good_damping};
+
+    ghost Value = { Float };
+
+    ghost view = { λ d. d.value };
+
+    ghost invariant = { λ d. T (good_damping d.value) };
+
+    ghost inverse = { λ x. record { value = x } };
+}
+
+impl ValidDamping {
+    // Row 3
+    pub fn new(damping: f64) -> Result<Self, Refusal>
+        ensures { result ≡ Damping.valid_damping damping }
+    {
+        if good_damping(damping) {
+            Ok(Self { value: damping })
+        } else {
+            Err(Refusal::Damping)
+        }
+    }
+
+    pub fn value(self) -> f64
+        ensures value { result ≡ self }
+        ensures valid { T (Damping.good_damping result) }
+    {
+        self.value
+    }
+
+    // Either zero
+    pub fn is_zero(self) -> bool
+        ensures { result ≡ Damping.is_zero self }
+    {
+        self.value == 0.0
+    }
+}
+
 #[tactic(auto, unfolding(crate::specs::Damping::good_damping))]
-pub fn good_damping(damping: f64) -> bool
+fn good_damping(damping: f64) -> bool
     ensures { result ≡ Damping.good_damping damping }
 {
     numerics::is_finite(damping) & !(damping < 0.0)
-}
-
-// Row 3, for the callers that test it
-pub fn check_damping(damping: f64) -> Result<(), Refusal>
-    ensures { result ≡ First.unless (Damping.good_damping damping) Refusal.Damping }
-{
-    if good_damping(damping) {
-        Ok(())
-    } else {
-        Err(Refusal::Damping)
-    }
 }
 
 #[tactic(auto, unfolding(crate::specs::Damping::damped_matrix))]

@@ -15,6 +15,19 @@ pub behind : (camera : PinholeCamera) (observation point : List Float) → in_fr
 unfolding pixel_projection
 behind camera observation point e = rw e refl
 
+-- what is projected are the formulas' numbers
+pub projected_is : (camera : PinholeCamera) (observation point : List Float) (p : Projected) → pixel_projection camera observation point ≡ Ok p → p ≡ linearized camera observation point
+unfolding pixel_projection
+projected_is camera observation point p = by (in_front point) (all_finite q)
+  where
+    q : Projected
+    q = linearized camera observation point
+
+    by : (f g : Bool) → cond f (cond g (Ok q) (Err LoneProjection)) (Err LoneProjection) ≡ Ok p → p ≡ q
+    by true true h = cc
+    by true false h = cc
+    by false g h = cc
+
 -- where nothing is refused, the residual and the Jacobian are finite
 pub projection_finite : (camera : PinholeCamera) (observation point : List Float) (p : Projected) → pixel_projection camera observation point ≡ Ok p → T (all_finite p)
 unfolding pixel_projection

@@ -63,8 +63,10 @@ fn in_front(point: [f64; 3]) -> bool
     finite & !(point[2] <= numerics::EPSILON64 * scale)
 }
 
+/// The residual and the Jacobian by the formulas alone, whether they are finite or not:
+/// `pixel_projection` tests the point before and the numbers after.
 #[tactic(auto, unfolding(crate::specs::Projection::linearized))]
-fn linearized(camera: PinholeCamera, observation: [f64; 2], point: [f64; 3]) -> Projected
+pub fn linearized(camera: PinholeCamera, observation: [f64; 2], point: [f64; 3]) -> Projected
     ensures { result ≡ Projection.linearized camera observation point }
 {
     let inverse_depth = numerics::recip(point[2]);
