@@ -21,7 +21,7 @@ use Rattle.std.specs.Result.{result_err}
 use Rattle.refusal.specs.declared.Refusal.{Refusal}
 use Rattle.refusal.specs.declared.Refusal.TheVariants.{Damping, Full}
 use Rattle.point_block.specs.Condition.{reciprocal_condition_number, is_weak}
-use Rattle.point_block.specs.Damping.{good_damping}
+use Rattle.point_block.specs.Damping.{good_damping, is_zero}
 use Rattle.point_block.specs.Lone.{factor, lone_factor}
 use Rattle.point_block.specs.declared.PointBlockFactor.{PointBlockFactor}
 use Rattle.point_block.specs.declared.LoneFactor.{LoneFactor}
@@ -31,7 +31,7 @@ use Rattle.linearization.specs.declared.linearize.LocalLinearization.{LocalLinea
 use Rattle.schur.specs.declared.reduced_system.ReducedSystem.{ReducedSystem}
 use Rattle.schur.specs.Model.{new_system}
 use Rattle.schur.specs.Elimination.{reduced_hessian, reduced_gradient, point_reduction}
-use Rattle.schur.specs.BlockElimination.{is_zero, not_eliminated, eliminated, eliminate}
+use Rattle.schur.specs.BlockElimination.{not_eliminated, eliminated, eliminate}
 use Rattle.schur.specs.System.{max_blocks, raised, taken_with, taken_by, taken, add, handed_back}
 use Rattle.add_sequences.specs.Calls.{Inputs, made, Call, at_damping, at_refused, next, results, after, after_blocks, Tally, factors, small_rcond, not_full, taken_in, tally, refusals, blocks_in, all, filter}
 use Rattle.linearization.proofs.Costs.{Costs, made_costs}

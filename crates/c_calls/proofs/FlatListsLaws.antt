@@ -11,7 +11,7 @@ use Rattle.refusal.specs.Refused.{map_ok}
 use Rattle.refusal.specs.declared.Refusal.{Refusal}
 use Rattle.refusal.specs.declared.Refusal.TheVariants.{Damping, WeakCount, Full}
 use Rattle.linearization.specs.Accumulate.{pose_hessian, cross_hessian, point_hessian, pose_gradient, point_gradient}
-use Rattle.point_block.specs.Damping.{good_damping}
+use Rattle.point_block.specs.Damping.{good_damping, is_zero}
 use Rattle.point_block.specs.Lone.{factor}
 use Rattle.point_block.specs.declared.PointBlockFactor.{PointBlockFactor}
 use Rattle.schur.specs.PoseModel.{sum5}
@@ -22,7 +22,7 @@ use Rattle.linearization.specs.declared.linearize.LocalLinearization.{LocalLinea
 use Rattle.schur.specs.Elimination.{reduced_hessian, reduced_gradient}
 use Rattle.schur.specs.declared.reduced_system.ReducedSystem.{ReducedSystem}
 use Rattle.schur.specs.Model.{new_system}
-use Rattle.schur.specs.BlockElimination.{is_zero, not_eliminated, eliminated, eliminate}
+use Rattle.schur.specs.BlockElimination.{not_eliminated, eliminated, eliminate}
 use Rattle.schur.specs.System.{max_blocks, taken_with, taken_by, taken, add, handed_back}
 use Rattle.add_sequences.specs.Calls.{Inputs, made, Call, at_damping, at_refused, added, next, results, after}
 use Rattle.c_calls.specs.Answers.{number, stored}

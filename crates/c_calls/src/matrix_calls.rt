@@ -6,6 +6,7 @@ ghost use Rattle.c_calls.specs.Answers as Answers;
 ghost use Rattle.c_calls.specs.Calls as Calls;
 
 use crate::{answers, slices};
+use point_block::point_damping::ValidDamping;
 use point_block::{LoneFactor, PointBlockFactor, point_damping};
 
 // out: 3
@@ -31,8 +32,8 @@ pub fn damped_matrix(matrix: &[f64], damping: f64, out: &mut [f64]) -> u64
         return answers::lengths();
     }
     let matrix = slices::vector(matrix, 0);
-    let checked = point_damping::check_damping(damping);
-    let damped = checked.and_then(|()| point_damping::damped_matrix(matrix, damping));
+    let damped = ValidDamping::new(damping)
+        .and_then(|damping| point_damping::damped_matrix(matrix, damping.value()));
     answers::answer(damped, out)
 }
 

@@ -40,7 +40,10 @@ pub fn linearize_point(
 pub fn block_of(rig: &Rig, correspondence: Correspondence) -> LocalLinearization
     ensures { result ≡ Linearize.block_of rig.now correspondence }
 {
-    block(views::views_of(rig, correspondence), correspondence.inverse_deviation)
+    block(
+        views::views_of(rig, correspondence),
+        correspondence.inverse_deviation,
+    )
 }
 
 // The block of two views, with what each adds to the cost and to the squared residual

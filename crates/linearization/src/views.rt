@@ -112,7 +112,13 @@ pub(crate) fn views_of(rig: &Rig, correspondence: Correspondence) -> LinearizedV
     let moved = projection::camera_point(rotated, pose.translation);
     let first = projection::linearized(rig.camera1, correspondence.view1, correspondence.point);
     let second = projection::linearized(rig.camera2, correspondence.view2, moved);
-    weighted_views(first, second, rotated, pose, correspondence.inverse_deviation)
+    weighted_views(
+        first,
+        second,
+        rotated,
+        pose,
+        correspondence.inverse_deviation,
+    )
 }
 
 // Row 4 lets an inverse deviation through that is finite and above 0.

@@ -2,3 +2,4 @@
 -- A law of the Schur term.
 pub mod Norms
 pub mod Rows
+pub mod Room

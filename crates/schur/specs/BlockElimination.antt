@@ -1,18 +1,14 @@
 -- What a block makes of a system's equations once its point is eliminated, and what it shows of itself: `add` of schur.rs. Document 01, "The system".
 use Rattle.std.specs.Prelude.{Bool, true, false, ◌&&◌, cond, List, Float, Ok, Err}
-use Rattle.std.specs.Float.Ieee.{eq}
 use Rattle.numerics.specs.Extrema.{min}
 use Rattle.numerics.specs.Binary64.{zero}
+use Rattle.point_block.specs.Damping.{is_zero}
 use Rattle.point_block.specs.Condition.{reciprocal_condition_number, is_weak}
 use Rattle.point_block.specs.Lone.{factor}
 use Rattle.linearization.specs.declared.linearize.LocalLinearization.{LocalLinearization}
 use Rattle.schur.specs.Elimination.{reduced_hessian, reduced_gradient, point_reduction}
 use Rattle.schur.specs.declared.reduced_system.ReducedSystem.{ReducedSystem}
 use Rattle.schur.specs.declared.elimination.block_elimination.Change.{Change}
-
--- "Damping −0 counts as zero"
-abbrev pub is_zero : Float → Bool
-is_zero damping = eq damping zero
 
 -- a block that does not factor leaves the equations alone; at damping zero only it is weak, with an rcond of 0
 unfoldable pub not_eliminated : ReducedSystem → Bool → Change

@@ -43,9 +43,13 @@ with_hessian s h = record {
   block_count = s.block_count;
 }
 
+-- with the damping added to the pose's diagonal
+abbrev pub damped : ReducedSystem → Float → ReducedSystem
+damped s damping = with_hessian s (damped_hessian s.hessian s.pose_diagonal damping)
+
 -- tests row 3
 unfoldable pub finish_damping : ReducedSystem → Float → Result ReducedSystem Refusal
-finish_damping s damping = cond (good_damping damping) (Ok (with_hessian s (damped_hessian s.hessian s.pose_diagonal damping))) (Err Damping)
+finish_damping s damping = cond (good_damping damping) (Ok (damped s damping)) (Err Damping)
 
 unfoldable pub is_valid : ReducedSystem → Bool
 is_valid s = s.valid && all_finite s.gradient && all_finite s.hessian

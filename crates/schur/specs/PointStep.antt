@@ -5,9 +5,9 @@ use Rattle.numerics.specs.Binary64.{◌⊕◌, ◌⊗◌}
 use Rattle.numerics.specs.Vectors.{◌!◌, sum, tabulate}
 use Rattle.refusal.specs.declared.Refusal.{Refusal}
 use Rattle.refusal.specs.declared.Refusal.TheVariants.{Damping}
-use Rattle.point_block.specs.Damping.{good_damping, damping_diagonal}
+use Rattle.point_block.specs.Damping.{good_damping, floored}
 use Rattle.point_block.specs.Factor.{solve}
-use Rattle.point_block.specs.Lone.{factor}
+use Rattle.point_block.specs.Lone.{factor, inverse_at}
 use Rattle.linearization.specs.declared.linearize.LocalLinearization.{LocalLinearization}
 use Rattle.linearization.specs.declared.terms.PointTerms.{PointTerms}
 use Rattle.linearization.specs.Linearize.{point_terms}
@@ -28,15 +28,19 @@ step_of inverse t pose_step = tabulate 3 (λ i. neg (solve inverse (right_hand_s
 unfoldable pub damping_norm : List Float → List Float → Float
 damping_norm diagonal step = sum (tabulate 3 (λ i. diagonal ! i ⊗ step ! i ⊗ step ! i))
 
-unfoldable pub stepped : List Float → PointTerms → List Float → Result PointStep Refusal
+unfoldable pub stepped : List Float → PointTerms → List Float → PointStep
 stepped inverse t pose_step =
     let step = step_of inverse t pose_step in
-    elim (damping_diagonal t.point_hessian) [ Ok d ↦ Ok (record { step = step; damping_norm = damping_norm d step }) | Err r ↦ Err r ]
+    record { step = step; damping_norm = damping_norm (floored t.point_hessian) step }
+
+-- the step of a point by the formulas alone: that of its factor, where it has one
+abbrev pub step_at : PointTerms → Float → List Float → PointStep
+step_at t damping pose_step = stepped (inverse_at t.point_hessian damping) t pose_step
+
+-- tests row 10
+unfoldable pub damped_step : PointTerms → Float → List Float → Result PointStep Refusal
+damped_step t damping pose_step = elim (factor t.point_hessian damping) [ Ok f ↦ Ok (stepped f.inverse t pose_step) | Err r ↦ Err r ]
 
 -- tests row 3, then row 10
-unfoldable pub step_of_terms : PointTerms → Float → List Float → Result PointStep Refusal
-step_of_terms t damping pose_step =
-    cond (good_damping damping) (elim (factor t.point_hessian damping) [ Ok f ↦ stepped f.inverse t pose_step | Err r ↦ Err r ]) (Err Damping)
-
 unfoldable pub point_step : LocalLinearization → Float → List Float → Result PointStep Refusal
-point_step b damping pose_step = step_of_terms (point_terms b) damping pose_step
+point_step b damping pose_step = cond (good_damping damping) (damped_step (point_terms b) damping pose_step) (Err Damping)

@@ -51,6 +51,10 @@ taken_by s b e = taken_with s b e (raised e.weak s.weak_point_count)
 unfoldable pub taken : ReducedSystem → LocalLinearization → Float → ReducedSystem
 taken s b damping = taken_by s b (eliminate s b damping)
 
+-- a system that takes one more block in, or the refusal of rows 12 and 13
+abbrev pub open_system : ReducedSystem → Result ReducedSystem Refusal
+open_system s = cond (leb s.weak_point_count s.block_count) (cond (ltb s.block_count max_blocks) (Ok s) (Err Full)) (Err WeakCount)
+
 -- `add` tests rows 3, 12, 13
 unfoldable pub add : ReducedSystem → LocalLinearization → Float → Result ReducedSystem Refusal
 add s b damping =

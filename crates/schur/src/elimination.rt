@@ -9,13 +9,14 @@ mod block_elimination;
 ghost use Rattle.std.specs.Prelude.{◌≡◌, ◌<◌};
 ghost use Rattle.schur.specs.Elimination as Elimination;
 
-pub use block_elimination::{Change, eliminate};
+pub use block_elimination::Change;
+pub(crate) use block_elimination::eliminate;
 use linearization::LocalLinearization;
 use point_block::PointBlockFactor;
 use std::array;
 
 // The Hessian of the pose, with the block's less what the point takes up of it
-pub fn reduced_hessian(
+pub(crate) fn reduced_hessian(
     h: [f64; 25],
     factor: PointBlockFactor,
     local: LocalLinearization,
@@ -52,7 +53,7 @@ fn schur_term(factor: PointBlockFactor, c: [f64; 15]) -> [f64; 25]
 }
 
 #[tactic(auto, unfolding(crate::specs::Elimination::reduced_gradient))]
-pub fn reduced_gradient(
+pub(crate) fn reduced_gradient(
     g: [f64; 5],
     factor: PointBlockFactor,
     local: LocalLinearization,
@@ -66,7 +67,11 @@ pub fn reduced_gradient(
 }
 
 #[tactic(auto, unfolding(crate::specs::Elimination::point_reduction))]
-pub fn point_reduction(reduction: f64, factor: PointBlockFactor, local: LocalLinearization) -> f64
+pub(crate) fn point_reduction(
+    reduction: f64,
+    factor: PointBlockFactor,
+    local: LocalLinearization,
+) -> f64
     ensures { result ≡ Elimination.point_reduction reduction factor.inverse local }
 {
     let gradient = local.point_gradient;

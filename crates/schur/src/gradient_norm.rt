@@ -12,13 +12,13 @@ use numerics::extrema;
 use std::array;
 
 #[tactic(auto, unfolding(crate::specs::GradientNorm::point_gradient_norm))]
-pub fn point_gradient_norm(gradient: [f64; 3], hessian: [f64; 9]) -> f64
+pub(crate) fn point_gradient_norm(gradient: [f64; 3], hessian: [f64; 9]) -> f64
     ensures { result ≡ GradientNorm.point_gradient_norm gradient hessian }
 {
     norm(gradient, [hessian[0], hessian[4], hessian[8]])
 }
 
-pub fn norm<const N: usize>(g: [f64; N], d: [f64; N]) -> f64
+pub(crate) fn norm<const N: usize>(g: [f64; N], d: [f64; N]) -> f64
     ensures { result ≡ GradientNorm.scaled_gradient_inf_norm N g.entry d.entry }
 {
     let scale = extrema::largest(d);

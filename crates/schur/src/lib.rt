@@ -1,102 +1,15 @@
 // SPDX-FileCopyrightText: 2026 Pierre Moulon and OpenMVG Rust contributors
 // SPDX-License-Identifier: MIT OR Apache-2.0
 
-// A block taken into the reduced system, with its point eliminated: `add` of kernel/two_view/schur.rs.
+// The reduced system of the two-view problem, kernel/two_view/schur.rs: `reduced_add` takes a block in,
+// with its point eliminated; `point_step` says how that point moves with a step of the pose.
 #![tactic(auto)]
 
 pub mod elimination;
-pub mod gradient_norm;
-mod in_place;
+mod gradient_norm;
 pub mod point_step;
-pub mod pose_model;
+mod pose_model;
+pub mod reduced_add;
 pub mod reduced_system;
 
-ghost use Rattle.std.specs.Prelude.{◌≡◌, ◌<◌};
-ghost use Rattle.schur.specs.System as System;
-
-use crate::elimination::Change;
-use crate::reduced_system::ReducedSystem;
-pub use in_place::add_to;
-use linearization::LocalLinearization;
-use numerics::extrema;
-use point_block::point_damping;
-use refusal::Refusal;
-
-// The most blocks that a system takes in
-const MAX_BLOCKS: u16 = 65535;
-
-// Takes a block in. Tests rows 3, 12, 13.
-#[tactic(auto, unfolding(crate::specs::System::add))]
-pub fn add(
-    system: ReducedSystem,
-    local: LocalLinearization,
-    damping: f64,
-) -> Result<ReducedSystem, Refusal>
-    ensures { result ≡ System.add system local damping }
-{
-    point_damping::check_damping(damping)?;
-    if system.weak_point_count > system.block_count {
-        return Err(Refusal::WeakCount);
-    }
-    if system.block_count >= MAX_BLOCKS {
-        return Err(Refusal::Full);
-    }
-    Ok(taken(system, local, damping))
-}
-
-#[tactic(auto, unfolding(crate::specs::System::taken))]
-fn taken(system: ReducedSystem, local: LocalLinearization, damping: f64) -> ReducedSystem
-    requires { System.Free system }
-    ensures { result ≡ System.taken system local damping }
-{
-    let change = elimination::eliminate(system, local, damping);
-    let weak = raised(change.weak, system.weak_point_count);
-    taken_with(system, local, change, weak)
-}
-
-// Takes in what every block brings, beside what the elimination of its point changes.
-#[tactic(auto, unfolding(crate::specs::System::taken_with))]
-fn taken_with(
-    system: ReducedSystem,
-    local: LocalLinearization,
-    change: Change,
-    weak: u16,
-) -> ReducedSystem
-    requires { system.block_count < System.max_blocks }
-    ensures { result ≡ System.taken_with system local change weak }
-{
-    let block_count = system.block_count + 1;
-    let valid = system.valid & change.factored;
-    let hessian = change.hessian;
-    let gradient = change.gradient;
-    let full_gradient = system.full_pose_gradient;
-    let diagonal = system.pose_diagonal;
-    let pose_gradient = local.pose_gradient;
-    let pose_hessian = local.pose_hessian;
-    let point_gradient = local.point_gradient;
-    let point_hessian = local.point_hessian;
-    ReducedSystem {
-        hessian,
-        gradient,
-        cost: system.cost + local.cost,
-        squared_residual: system.squared_residual + local.squared_residual,
-        full_pose_gradient: pose_model::sum5(full_gradient, pose_gradient),
-        pose_diagonal: pose_model::sum5(diagonal, pose_model::diagonal5(pose_hessian)),
-        point_model_reduction: change.point_model_reduction,
-        scaled_point_gradient_inf_norm: extrema::max(
-            system.scaled_point_gradient_inf_norm,
-            gradient_norm::point_gradient_norm(point_gradient, point_hessian),
-        ),
-        weak_point_count: weak,
-        minimum_point_rcond: change.minimum_point_rcond,
-        valid,
-        block_count,
-    }
-}
-
-fn raised(by_one: bool, count: u16) -> u16
-    requires { count < System.max_blocks }
-    ensures { result ≡ System.raised by_one count }
-{
-    count + u16::from(by_one)
-}
+pub use reduced_add::{OpenSystem, add, add_to};

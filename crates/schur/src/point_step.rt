@@ -9,6 +9,7 @@ ghost use Rattle.schur.specs.PointStep as Steps;
 use crate::pose_model;
 use linearization::{LocalLinearization, PointTerms};
 use numerics::vectors;
+use point_block::point_damping::ValidDamping;
 use point_block::{PointBlockFactor, point_damping};
 use refusal::Refusal;
 use std::array;
@@ -29,37 +30,33 @@ pub fn point_step_with_damping_norm(
 ) -> Result<PointStep, Refusal>
     ensures { result ≡ Steps.point_step local damping pose_step }
 {
-    step_of_terms(PointTerms::from(local), damping, pose_step)
+    let damping = ValidDamping::new(damping)?;
+    damped_step(PointTerms::from(local), damping, pose_step)
 }
 
-// The same from what a step needs of the block
-#[tactic(auto, unfolding(crate::specs::PointStep::step_of_terms))]
-pub fn step_of_terms(
+/// The same at a valid damping, from what a step needs of the block. Tests row 10.
+#[tactic(auto, unfolding(crate::specs::PointStep::damped_step))]
+pub fn damped_step(
     terms: PointTerms,
-    damping: f64,
+    damping: ValidDamping,
     pose_step: [f64; 5],
 ) -> Result<PointStep, Refusal>
-    ensures { result ≡ Steps.step_of_terms terms damping pose_step }
+    ensures { result ≡ Steps.damped_step terms damping pose_step }
 {
-    point_damping::check_damping(damping)?;
-    let factor = PointBlockFactor::factor(terms.point_hessian, damping)?;
-    stepped(factor, terms, pose_step)
+    let factor = PointBlockFactor::factor(terms.point_hessian, damping.value())?;
+    Ok(stepped(factor, terms, pose_step))
 }
 
 #[tactic(auto, unfolding(crate::specs::PointStep::stepped))]
-fn stepped(
-    factor: PointBlockFactor,
-    terms: PointTerms,
-    pose_step: [f64; 5],
-) -> Result<PointStep, Refusal>
+fn stepped(factor: PointBlockFactor, terms: PointTerms, pose_step: [f64; 5]) -> PointStep
     ensures { result ≡ Steps.stepped factor.inverse terms pose_step }
 {
     let step = step_of(factor, terms, pose_step);
-    let diagonal = point_damping::damping_diagonal(terms.point_hessian)?;
-    Ok(PointStep {
+    let diagonal = point_damping::floored_diagonal(terms.point_hessian);
+    PointStep {
         step,
         damping_norm: damping_norm(diagonal, step),
-    })
+    }
 }
 
 #[tactic(auto, unfolding(crate::specs::PointStep::step_of))]

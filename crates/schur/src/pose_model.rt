@@ -9,20 +9,20 @@ mod damping;
 ghost use Rattle.std.specs.Prelude.{◌≡◌, ◌<◌};
 ghost use Rattle.schur.specs.PoseModel as PoseModel;
 
-pub use damping::{damped_hessian, pose_damping_norm};
+pub(crate) use damping::{damped_hessian, pose_damping_norm};
 use numerics::vectors;
 use std::array;
 
 // A sum of products, from −0: `vectors::dot` by the name of the definitions
 #[tactic(auto, unfolding(crate::specs::PoseModel::dot5))]
-pub fn dot5(x: [f64; 5], y: [f64; 5]) -> f64
+pub(crate) fn dot5(x: [f64; 5], y: [f64; 5]) -> f64
     ensures { result ≡ PoseModel.dot5 x y }
 {
     vectors::dot(x, y)
 }
 
 #[tactic(auto, unfolding(crate::specs::PoseModel::sum5))]
-pub fn sum5(x: [f64; 5], y: [f64; 5]) -> [f64; 5]
+pub(crate) fn sum5(x: [f64; 5], y: [f64; 5]) -> [f64; 5]
     ensures { result ≡ PoseModel.sum5 x y }
 {
     array::from_fn(|i| x[i] + y[i])
@@ -30,7 +30,7 @@ pub fn sum5(x: [f64; 5], y: [f64; 5]) -> [f64; 5]
 
 // The diagonal of a 5 by 5 matrix; an array of N * N can't be named for any N
 #[tactic(auto, unfolding(crate::specs::PoseModel::diagonal5))]
-pub fn diagonal5(h: [f64; 25]) -> [f64; 5]
+pub(crate) fn diagonal5(h: [f64; 25]) -> [f64; 5]
     ensures { result ≡ PoseModel.diagonal5 h }
 {
     array::from_fn(|i| h[6 * i])
@@ -45,7 +45,7 @@ fn hessian_row(h: [f64; 25], i: usize) -> [f64; 5]
 }
 
 #[tactic(auto, unfolding(crate::specs::PoseModel::quadratic))]
-pub fn quadratic(h: [f64; 25], step: [f64; 5]) -> f64
+pub(crate) fn quadratic(h: [f64; 25], step: [f64; 5]) -> f64
     ensures { result ≡ PoseModel.quadratic h step }
 {
     dot5(step, array::from_fn(|i| dot5(hessian_row(h, i), step)))

@@ -2,14 +2,14 @@
 // SPDX-License-Identifier: MIT OR Apache-2.0
 
 // The reduced system: the 5 by 5 equations of the pose once each point is eliminated, `ReducedSystem` of
-// kernel/two_view/schur.rs. Here is what is asked of it; `schur` takes blocks in.
+// kernel/two_view/schur.rs. Here is what is asked of it; `reduced_add` takes blocks in.
 
 ghost use Rattle.std.specs.Prelude.{◌≡◌};
 ghost use Rattle.schur.specs.Model as Model;
 
 use crate::{gradient_norm, pose_model};
 use numerics::{extrema, vectors};
-use point_block::point_damping;
+use point_block::point_damping::ValidDamping;
 use refusal::Refusal;
 
 #[derive(Clone, Copy)]
@@ -55,9 +55,17 @@ impl ReducedSystem {
     pub fn finish_damping(self, damping: f64) -> Result<Self, Refusal>
         ensures { result ≡ Model.finish_damping self damping }
     {
-        point_damping::check_damping(damping)?;
+        let damping = ValidDamping::new(damping)?;
+        Ok(self.damped(damping))
+    }
+
+    /// The system with the damping added to the pose's diagonal
+    pub fn damped(self, damping: ValidDamping) -> Self
+        ensures { result ≡ Model.damped self damping }
+    {
+        let damping = damping.value();
         let hessian = pose_model::damped_hessian(self.hessian, self.pose_diagonal, damping);
-        Ok(self.with_hessian(hessian))
+        self.with_hessian(hessian)
     }
 
     // Whether every block taken in factored, and the equations are finite
@@ -87,19 +95,20 @@ impl ReducedSystem {
     ) -> Result<f64, Refusal>
         ensures { result ≡ Model.predicted_reduction self step damping point_damping_norm }
     {
-        let checked = point_damping::check_damping(damping);
-        checked.map(|()| self.reduction_of(step, damping, point_damping_norm))
+        let damping = ValidDamping::new(damping)?;
+        Ok(self.reduction_of(step, damping, point_damping_norm))
     }
 
+    /// What a step of the pose is predicted to gain at a valid damping
     #[tactic(auto, unfolding(crate::specs::Model::reduction_of))]
-    fn reduction_of(self, step: [f64; 5], damping: f64, point_damping_norm: f64) -> f64
+    pub fn reduction_of(self, step: [f64; 5], damping: ValidDamping, point_damping_norm: f64) -> f64
         ensures { result ≡ Model.reduction_of self step damping point_damping_norm }
     {
         let undamped = self.point_model_reduction
             - pose_model::dot5(self.gradient, step)
             - 0.5 * pose_model::quadratic(self.hessian, step);
         let damping_norm = pose_model::pose_damping_norm(self.pose_diagonal, step);
-        undamped + 0.5 * damping * (damping_norm + point_damping_norm)
+        undamped + 0.5 * damping.value() * (damping_norm + point_damping_norm)
     }
 
     #[tactic(auto, unfolding(crate::specs::Model::with_hessian))]

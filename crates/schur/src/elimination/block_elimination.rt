@@ -10,6 +10,7 @@ use crate::reduced_system::ReducedSystem;
 use linearization::LocalLinearization;
 use numerics::extrema;
 use point_block::PointBlockFactor;
+use point_block::point_damping::ValidDamping;
 
 // The equations after a block, and what the block shows of itself
 #[derive(Clone, Copy)]
@@ -24,12 +25,16 @@ pub struct Change {
 }
 
 #[tactic(auto, unfolding(crate::specs::BlockElimination::eliminate))]
-pub fn eliminate(system: ReducedSystem, local: LocalLinearization, damping: f64) -> Change
+pub(crate) fn eliminate(
+    system: ReducedSystem,
+    local: LocalLinearization,
+    damping: ValidDamping,
+) -> Change
     ensures { result ≡ BlockElimination.eliminate system local damping }
 {
-    match PointBlockFactor::factor(local.point_hessian, damping) {
+    match PointBlockFactor::factor(local.point_hessian, damping.value()) {
         Ok(factor) => eliminated(system, local, damping, factor),
-        Err(_) => not_eliminated(system, damping == 0.0),
+        Err(_) => not_eliminated(system, damping.is_zero()),
     }
 }
 
@@ -38,7 +43,7 @@ pub fn eliminate(system: ReducedSystem, local: LocalLinearization, damping: f64)
 fn eliminated(
     system: ReducedSystem,
     local: LocalLinearization,
-    damping: f64,
+    damping: ValidDamping,
     factor: PointBlockFactor,
 ) -> Change
     ensures { result ≡ BlockElimination.eliminated system local damping factor.inverse }
@@ -52,7 +57,7 @@ fn eliminated(
     );
     let mut weak = false;
     let mut minimum_point_rcond = system.minimum_point_rcond;
-    if damping == 0.0 {
+    if damping.is_zero() {
         let rcond = factor.reciprocal_condition_number(local.point_hessian);
         weak = point_block::is_weak(rcond);
         minimum_point_rcond = extrema::min(minimum_point_rcond, rcond);

@@ -25,7 +25,7 @@ fn damping_diagonal(d: [f64; 5]) -> [f64; 5]
     array::from_fn(|i| extrema::max(d[i], floor))
 }
 
-pub fn damped_hessian(h: [f64; 25], d: [f64; 5], damping: f64) -> [f64; 25]
+pub(crate) fn damped_hessian(h: [f64; 25], d: [f64; 5], damping: f64) -> [f64; 25]
     ensures { result ≡ PoseDamping.damped_hessian h d damping }
 {
     let diagonal = damping_diagonal(d);
@@ -46,7 +46,7 @@ fn damped_entry(h: [f64; 25], diagonal: [f64; 5], damping: f64, k: usize) -> f64
 }
 
 #[tactic(auto, unfolding(crate::specs::PoseDamping::pose_damping_norm, crate::specs::PoseModel::dot5))]
-pub fn pose_damping_norm(d: [f64; 5], step: [f64; 5]) -> f64
+pub(crate) fn pose_damping_norm(d: [f64; 5], step: [f64; 5]) -> f64
     ensures { result ≡ PoseDamping.pose_damping_norm d step }
 {
     let diagonal = damping_diagonal(d);
