@@ -14,7 +14,7 @@ use lib.Ieee.Bits.{is_true, is_false}
 use lib.Ieee.Fits.{and_l, down_pos}
 use Rattle.numerics.specs.Binary64.{◌⊗◌, zero, epsilon64}
 use Rattle.numerics.specs.Parts.{negative, nonneg}
-use Rattle.numerics.proofs.Values.{same_value}
+use Rattle.numerics.proofs.ExtremaLaws.{eq_alike}
 use Rattle.numerics.proofs.Order.{not_lt, nonneg_not_nan, nonneg_is, not_negative, nonneg_above, nonneg_floor}
 use Rattle.numerics.proofs.Monotone.{nonneg_zero}
 use Rattle.numerics.specs.Extrema.{max, min, larger, Larger, largest}
@@ -67,21 +67,8 @@ nonneg_min x y h k = pick_has _ _ x y (λ z. T (nonneg z)) (nonneg_not_nan y k) 
 -- ---- `larger` in the place of `max`
 
 -- equal values that the format holds, with the sign clear, are one value
-pub eq_same : (f : Format) (x y : Float) → T (fits f x) → T (fits f y) → T (nonneg x) → T (nonneg y) → T (eq x y) → x ≡ y
-unfolding eq nonneg
-eq_same f nan y p q a b h = absurd h
-eq_same f (inf s) nan p q a b h = absurd h
-eq_same f (inf true) (inf t) p q a b h = absurd a
-eq_same f (inf false) (inf true) p q a b h = absurd b
-eq_same f (inf false) (inf false) p q a b h = refl
-eq_same f (inf s) (fin t n d) p q a b h = absurd h
-eq_same f (fin s m e) nan p q a b h = absurd h
-eq_same f (fin s m e) (inf t) p q a b h = absurd h
-eq_same f (fin true m e) (fin t n d) p q a b h = absurd a
-eq_same f (fin false m e) (fin true n d) p q a b h = absurd b
-eq_same f (fin false m e) (fin false n d) p q a b h =
-    same_value f (fin false m e) (fin false n d) false (m * up e) (down e) (down_pos e) p q (refl, refl)
-    (refl, sym (eqb→eq (m * up e * down d) (n * up d * down e) (and_l (eqb (m * up e * down d) (n * up d * down e)) true h)))
+eq_same : (f : Format) (x y : Float) → T (fits f x) → T (fits f y) → T (nonneg x) → T (nonneg y) → T (eq x y) → x ≡ y
+eq_same f x y p q a b h = eq_alike f x y p q (not_negative x a ∙ sym (not_negative y b)) h
 
 pub larger_is : (f : Format) (low x : Float) → T (fits f low) → T (fits f x) → Larger low x (larger low x)
 unfolding max

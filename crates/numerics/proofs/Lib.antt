@@ -11,4 +11,5 @@ pub mod Fill
 pub mod FromFn
 mod Products
 mod Picks
+mod ExtremaLaws
 pub mod Laws

@@ -1,7 +1,8 @@
--- `f64::max` and `f64::min` as document 01 has them: a NaN is passed over when the other is a number. Of unlike zeros `max` gives +0 and `min` gives −0.
-use Rattle.std.specs.Prelude.{◌≡◌, not, ◌&&◌, ◌||◌, cond, List, fold, T, Float}
+-- `f64::max` and `f64::min`: a NaN is passed over when the other is a number. Of unlike zeros `max`
+-- gives +0 and `min` gives −0.
+use Rattle.std.specs.Prelude.{◌≡◌, Bool, not, ◌&&◌, ◌||◌, cond, List, fold, T, Float}
 use Rattle.std.specs.Float.Ieee.{is_nan, lt, eq}
-use Rattle.numerics.specs.Binary64.{zero}
+use Rattle.numerics.specs.Binary64.{zero, neg_zero}
 use Rattle.numerics.specs.Parts.{negative, nonneg}
 
 -- x where y is no number, where x is above y, and where the two are equal and x has no sign
@@ -11,6 +12,26 @@ max x y = cond (is_nan y || lt y x || (eq x y && not (negative x))) x y
 -- x where y is no number, where x is below y, and where the two are equal and x has the sign
 unfoldable pub min : Float → Float → Float
 min x y = cond (is_nan y || lt x y || (eq x y && negative x)) x y
+
+-- What the standard says of a result r that is one of x and y, where `ahead x y` says that x lies
+-- strictly ahead of y. A NaN is passed over: the other operand comes back, and of two NaNs either.
+-- Equal values of one sign are one value, which comes back. Equal values of unlike signs are the two
+-- zeros, of which one is named.
+pub record Picked (ahead : Float → Float → Bool) (of_zeros x y r : Float) : Type 0 where
+  pub first_nan : T (is_nan x) → r ≡ y
+  pub second_nan : T (is_nan y) → r ≡ x
+  pub first : T (ahead x y) → r ≡ x
+  pub second : T (ahead y x) → r ≡ y
+  pub equal : T (eq x y) → negative x ≡ negative y → (r ≡ x) × (r ≡ y)
+  pub unlike_zeros : T (eq x y) → negative x ≡ not (negative y) → r ≡ of_zeros
+
+-- the larger of x and y: +0 of unlike zeros
+abbrev pub IsMaximum : Float → Float → Float → Type 0
+IsMaximum x y r = Picked (λ a b. lt b a) zero x y r
+
+-- the smaller of x and y: −0 of unlike zeros
+abbrev pub IsMinimum : Float → Float → Float → Type 0
+IsMinimum x y r = Picked lt neg_zero x y r
 
 -- one comparison: x where it is above low, and low otherwise
 abbrev pub larger : Float → Float → Float

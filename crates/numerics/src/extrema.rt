@@ -3,10 +3,11 @@
 ghost use Rattle.std.specs.Prelude.{◌≡◌};
 ghost use Rattle.numerics.specs.Extrema as Extrema;
 
-// The larger of the two. A NaN is passed over; of unlike zeros it is +0.
+/// The larger of the two, as `f64::max`. A NaN is passed over; of unlike zeros it is +0.
 #[tactic(auto, using(crate::proofs::Picks::sign_is), unfolding(crate::specs::Extrema::max))]
 pub fn max(x: f64, y: f64) -> f64
-    ensures { result ≡ Extrema.max x y }
+    ensures result { result ≡ Extrema.max x y }
+    ensures standard { Extrema.IsMaximum x y result }
 {
     if y < x || y.is_nan() || (x == y && x.is_sign_positive()) {
         x
@@ -15,10 +16,11 @@ pub fn max(x: f64, y: f64) -> f64
     }
 }
 
-// The smaller of the two. A NaN is passed over; of unlike zeros it is −0.
+/// The smaller of the two, as `f64::min`. A NaN is passed over; of unlike zeros it is −0.
 #[tactic(auto, using(crate::proofs::Picks::sign_is), unfolding(crate::specs::Extrema::min))]
 pub fn min(x: f64, y: f64) -> f64
-    ensures { result ≡ Extrema.min x y }
+    ensures result { result ≡ Extrema.min x y }
+    ensures standard { Extrema.IsMinimum x y result }
 {
     if x < y || y.is_nan() || (x == y && x.is_sign_negative()) {
         x

@@ -1,4 +1,4 @@
--- A non-finite rotation or translation makes every point of the second view one that is not projectable (`not_projectable_lem`). Assumes nothing.
+-- A non-finite rotation or translation makes every point of the second view one that is not projectable (`not_projectable`). Assumes nothing.
 use mathlib.Core.Path.{◌≡◌, refl, sym, ◌∙◌}
 use mathlib.Core.Bool.{Bool, true, false, ◌&&◌, true≢false}
 use mathlib.Core.List.{List}
@@ -16,7 +16,7 @@ use Rattle.numerics.specs.Vectors.{◌!◌}
 use Rattle.numerics.proofs.Finite.{finite_add, finite_mul}
 use Rattle.projection.specs.declared.PinholeCamera.{PinholeCamera}
 use Rattle.projection.specs.Projection.{in_front, pixel_projection}
-use Rattle.projection.specs.Pose.{rotate, camera_point, NotProjectable}
+use Rattle.projection.specs.Pose.{rotate, camera_point, NonFinitePoseIsNotProjectable}
 use Rattle.projection.proofs.Laws.{behind}
 
 -- a row of the rotation with its part of the translation
@@ -92,8 +92,10 @@ module _ (rotation translation point : List Float) where
       by true e k = absurd (true≢false (sym (is_true (is_finite x) (k tt)) ∙ n))
       by false e k = behind camera observation moved e
 
-pub not_projectable_lem : (rotation translation : List Float) → NotProjectable rotation translation
-not_projectable_lem rotation translation = record {
-  bad_rotation = λ i l n camera observation point. refused rotation translation point (rotation ! i) (λ h. rotation_finite rotation translation point h i l) n camera observation;
-  bad_translation = λ i l n camera observation point. refused rotation translation point (translation ! i) (λ h. translation_finite rotation translation point h i l) n camera observation;
+pub not_projectable : NonFinitePoseIsNotProjectable
+not_projectable = record {
+  rotation = λ rotation translation i l n camera observation point.
+      refused rotation translation point (rotation ! i) (λ h. rotation_finite rotation translation point h i l) n camera observation;
+  translation = λ rotation translation i l n camera observation point.
+      refused rotation translation point (translation ! i) (λ h. translation_finite rotation translation point h i l) n camera observation;
 }

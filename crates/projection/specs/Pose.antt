@@ -1,4 +1,5 @@
--- A point in the second camera's frame: turned by the rows of the rotation, then moved by the translation, as `linearize_point` of schur.rs does.
+-- A point in the second camera's frame: turned by the rows of the rotation, then moved by the
+-- translation, as `linearize_point` of schur.rs does.
 use Rattle.std.specs.Prelude.{◌≡◌, false, List, [], ◌∷◌, ℕ, ◌<◌, Float, Err}
 use Rattle.numerics.specs.Binary64.{◌⊕◌, ◌⊗◌}
 use Rattle.numerics.specs.Parts.{is_finite}
@@ -18,9 +19,12 @@ rotate rotation point =
 unfoldable pub camera_point : List Float → List Float → List Float
 camera_point rotated translation = rotated ! 0 ⊕ translation ! 0 ∷ rotated ! 1 ⊕ translation ! 1 ∷ rotated ! 2 ⊕ translation ! 2 ∷ []
 
--- "A non-finite rotation or translation makes view 2 not projectable" (document 01, "Modules in port order"): whatever the camera, the observation and the point.
-pub record NotProjectable (rotation translation : List Float) : Type 0 where
-  pub bad_rotation : (i : ℕ) → i < 9 → is_finite (rotation ! i) ≡ false → (camera : PinholeCamera) (observation point : List Float)
+-- What a pose with an entry that is not finite makes of the second view: no point is projected there,
+-- whatever the camera and the observation.
+pub record NonFinitePoseIsNotProjectable : Type 0 where
+  pub rotation : (rotation translation : List Float) (i : ℕ) → i < 9 → is_finite (rotation ! i) ≡ false
+      → (camera : PinholeCamera) (observation point : List Float)
       → pixel_projection camera observation (camera_point (rotate rotation point) translation) ≡ Err LoneProjection
-  pub bad_translation : (i : ℕ) → i < 3 → is_finite (translation ! i) ≡ false → (camera : PinholeCamera) (observation point : List Float)
+  pub translation : (rotation translation : List Float) (i : ℕ) → i < 3 → is_finite (translation ! i) ≡ false
+      → (camera : PinholeCamera) (observation point : List Float)
       → pixel_projection camera observation (camera_point (rotate rotation point) translation) ≡ Err LoneProjection

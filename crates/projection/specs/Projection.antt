@@ -3,7 +3,7 @@ use Rattle.std.specs.Prelude.{Bool, not, ◌&&◌, cond, List, [], ◌∷◌, Fl
 use Rattle.std.specs.Float.Ieee.{neg, le}
 use Rattle.numerics.specs.Binary64.{◌⊕◌, ◌⊖◌, ◌⊗◌, zero, epsilon64, recip}
 use Rattle.numerics.specs.Parts.{is_finite, abs}
-use Rattle.numerics.specs.Vectors.{◌!◌}
+use Rattle.numerics.specs.Vectors.{◌!◌, zeros}
 use Rattle.numerics.specs.Extrema.{largest}
 use Rattle.refusal.specs.declared.Refusal.{Refusal}
 use Rattle.refusal.specs.declared.Refusal.TheVariants.{LoneProjection}
@@ -41,7 +41,11 @@ all_finite p =
     && is_finite (p.jacobian ! 4)
     && is_finite (p.jacobian ! 5)
 
--- row 9, with view 0 and index 0
+-- +0 everywhere: what stands beside a refusal
+abbrev pub no_projection : Projected
+no_projection = record { residual = zeros 2; jacobian = zeros 6 }
+
+-- refused with row 9, with view 0 and index 0
 unfoldable pub pixel_projection : PinholeCamera → List Float → List Float → Result Projected Refusal
 pixel_projection camera observation point =
     let p = linearized camera observation point in

@@ -9,6 +9,13 @@ ghost use Rattle.projection.specs.Pose as Pose;
 
 use std::array;
 
+/// A rotation or a translation with an entry that is not finite makes the second view one in which no
+/// point is projectable, whatever the camera and the observation. A theorem: nothing runs.
+pub fn non_finite_pose_is_not_projectable()
+    ensures { Pose.NonFinitePoseIsNotProjectable }
+{}
+
+/// The point turned by the rotation, which is given by rows.
 #[tactic(auto, unfolding(crate::specs::Pose::rotate))]
 pub fn rotate(rotation: [f64; 9], point: [f64; 3]) -> [f64; 3]
     ensures { result ≡ Pose.rotate rotation point }
@@ -19,6 +26,7 @@ pub fn rotate(rotation: [f64; 9], point: [f64; 3]) -> [f64; 3]
     })
 }
 
+/// The rotated point in the second camera's frame.
 #[tactic(auto, unfolding(crate::specs::Pose::camera_point))]
 pub fn camera_point(rotated: [f64; 3], translation: [f64; 3]) -> [f64; 3]
     ensures { result ≡ Pose.camera_point rotated translation }

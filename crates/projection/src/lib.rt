@@ -1,19 +1,26 @@
 // SPDX-FileCopyrightText: 2026 Pierre Moulon and OpenMVG Rust contributors
 // SPDX-License-Identifier: MIT OR Apache-2.0
 
-// The projection of a point into one camera: the pixel half of kernel/projection.rs, with
-// `PinholeCamera` of kernel/camera.rs.
+//! The projection of a point into one camera: the pixel half of kernel/projection.rs, with
+//! `PinholeCamera` of kernel/camera.rs, and a point's place in the second camera's frame.
+//!
+//! `pixel_projection` gives the residual and the Jacobian of a point, or refuses it; `linearized`
+//! gives them by the formulas alone. `rotate` and `camera_point` move a point into the second
+//! camera's frame.
 #![tactic(auto)]
 
 mod camera_frame;
 
 ghost use Rattle.std.specs.Prelude.{◌≡◌};
+ghost use Rattle.refusal.specs.Answer.{answer};
 ghost use Rattle.projection.specs.Projection as Projection;
+ghost use Rattle.projection.specs.Projection.{no_projection};
 
-pub use camera_frame::{camera_point, rotate};
+pub use camera_frame::{camera_point, non_finite_pose_is_not_projectable, rotate};
 use numerics::extrema;
 use refusal::Refusal;
 
+/// A camera without distortion, in pixels: the focal lengths, the principal point and the skew.
 #[derive(Clone, Copy)]
 pub struct PinholeCamera {
     pub fx: f64,
@@ -23,21 +30,25 @@ pub struct PinholeCamera {
     pub skew: f64,
 }
 
-// The residual and its derivative by the point in the camera's frame, two rows of three
+/// The residual, and its derivative by the point in the camera's frame: two rows of three.
 #[derive(Clone, Copy)]
 pub struct Projected {
     pub residual: [f64; 2],
     pub jacobian: [f64; 6],
 }
 
-// The projection of a point in the camera's frame, less what was observed; row 9 where there is none.
+/// The projection of a point in the camera's frame, less what was observed, and its Jacobian.
+/// Refused with row 9 where a coordinate is not finite, where the depth is not above 64ε of the
+/// largest absolute coordinate, and where an entry of the residual or of the Jacobian is not finite.
 #[tactic(auto, unfolding(crate::specs::Projection::pixel_projection))]
 pub fn pixel_projection(
     camera: PinholeCamera,
     observation: [f64; 2],
     point: [f64; 3],
 ) -> Result<Projected, Refusal>
-    ensures { result ≡ Projection.pixel_projection camera observation point }
+    ensures result { result ≡ Projection.pixel_projection camera observation point }
+    ensures answer { answer no_projection result
+        ≡ answer no_projection (Projection.pixel_projection camera observation point) }
 {
     if in_front(point) {
         let projected = linearized(camera, observation, point);
@@ -63,8 +74,8 @@ fn in_front(point: [f64; 3]) -> bool
     finite & !(point[2] <= numerics::EPSILON64 * scale)
 }
 
-/// The residual and the Jacobian by the formulas alone, whether they are finite or not:
-/// `pixel_projection` tests the point before and the numbers after.
+/// The residual and the Jacobian by the formulas alone, for a caller that has made the tests of
+/// `pixel_projection` already: nothing is refused, and entries may be infinite or a NaN.
 #[tactic(auto, unfolding(crate::specs::Projection::linearized))]
 pub fn linearized(camera: PinholeCamera, observation: [f64; 2], point: [f64; 3]) -> Projected
     ensures { result ≡ Projection.linearized camera observation point }

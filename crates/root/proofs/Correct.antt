@@ -182,7 +182,7 @@ above_zero (fin false m e) s a l h = (sym h.0, first_pos a (down e) (subst (λ (
     some n z q = lt_of_le_of_lt zero-le (lt_of_lt_of_le (ltb→lt z (n * 1) q) (le_of_eq (mul-one n)))
 
 module _ (x : Float) (n d k r : ℕ) (is : sqrt x ≡ nearest_root n) (counts : magnitude x * 2 ^ 1074 ≡ n) (e : n ≡ d * 2 ^ (2 * k)) (lo : 2 ^ 104 ≤ d) (hi : d < 2 ^ 106)
-    (near : NearestRoot d r) (small : k < 2000) (argument : T (is_finite x)) (positive : T (lt Binary64.zero x)) where
+    (near : NearestRoot d r) (small : k < 2000) where
   low_r : 2 ^ 52 ≤ r
   low_r = root_low n d k r e lo hi near
 
@@ -197,8 +197,6 @@ module _ (x : Float) (n d k r : ℕ) (is : sqrt x ≡ nearest_root n) (counts : 
 
   correct : CorrectlyRounded x (sqrt x)
   correct = record {
-    argument = argument;
-    positive = positive;
     held = rw is (root_fits n d k r e lo hi near small);
     finite = value_finite (sqrt x) (r * 2 ^ k) (2 ^ low binary64) value;
     signless = value_nonneg (sqrt x) (r * 2 ^ k) (2 ^ low binary64) value;
@@ -232,8 +230,6 @@ sqrt_correct x held finite positive = go (grid x held finite)
         s.high_d
         (nearest_is s.d (whole_root 53 s.d) 1 (lt_of_lt_of_le (lit< tt) s.low_d) (lit< tt) (whole_root_is 53 s.d s.high_d))
         s.small
-        finite
-        positive
       where
         room : (j : ℕ) → j < 2047 → j + 1074 < 3200
         room j h = omega arith

@@ -2,8 +2,7 @@
 use Prim.Native.Nat.{ℕ, zero, suc, ◌+◌, ◌-◌, ◌*◌, ◌/◌, ◌^◌, ◌<◌, compare}
 use Rattle.std.specs.Prelude.{true, false, cond, T, leb, Float}
 use Rattle.std.specs.Float.{nan, inf, fin, binary64}
-use Rattle.std.specs.Float.Ieee.{size, nearest, units, fits, lt}
-use Rattle.numerics.specs.Binary64 as Binary64
+use Rattle.std.specs.Float.Ieee.{size, nearest, units, fits}
 use Rattle.numerics.specs.Parts.{is_finite, nonneg, magnitude}
 
 -- the whole part of the root of an n below 4 ^ d, digit by digit
@@ -36,12 +35,12 @@ sqrt (fin s zero e) = fin s zero e
 sqrt (fin true (suc m) e) = nan
 sqrt (fin false (suc m) e) = nearest_root (magnitude (fin false (suc m) e) * 2 ^ 1074)
 
--- x is finite and above zero, and r is the square root that IEEE 754 asks for: a finite binary64 not below zero, and no other lies as near to the exact root.
--- A y below r lies further from it if the middle of the two lies below the exact root, and a y above r if the middle lies above: squared, in units of 2 ^ -1074.
--- No tie occurs, so each is strict. (A y below zero lies further away than +0.)
+-- For an x that is finite and above zero: r is the square root that IEEE 754 asks for, a finite
+-- binary64 not below zero, and no other lies as near to the exact root. A y below r lies further from
+-- it if the middle of the two lies below the exact root, and a y above r if the middle lies above:
+-- squared, in units of 2 ^ -1074. No tie occurs, so each is strict. (A y below zero lies further away
+-- than +0.)
 pub record CorrectlyRounded (x r : Float) : Type 0 where
-  pub argument : T (is_finite x)
-  pub positive : T (lt Binary64.zero x)
   pub held : T (fits binary64 r)
   pub finite : T (is_finite r)
   pub signless : T (nonneg r)

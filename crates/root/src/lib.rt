@@ -3,10 +3,14 @@
 // number then has the 53 digits of the result.
 #![tactic(auto)]
 
-ghost use Rattle.std.specs.Prelude.{◌⊎◌, ◌≡◌, ◌+◌, ◌-◌, ◌*◌, ◌^◌, ◌≤◌, ◌<◌};
+ghost use Rattle.std.specs.Prelude.{◌⊎◌, ◌≡◌, ◌+◌, ◌-◌, ◌*◌, ◌^◌, ◌≤◌, ◌<◌, T};
 ghost use Rattle.std.specs.Float.Ieee as Ieee;
+ghost use Rattle.std.specs.Float.Ieee.{lt};
 ghost use Rattle.std.specs.Float.{binary64};
+ghost use Rattle.numerics.specs.Binary64.{zero};
+ghost use Rattle.numerics.specs.Parts.{is_finite};
 ghost use Rattle.root.specs.Root as Root;
+ghost use Rattle.root.specs.Root.{CorrectlyRounded};
 ghost use Rattle.root.specs.Whole.{WholeRoot, NearestRoot};
 
 // The pattern of +∞
@@ -18,9 +22,12 @@ const LEAD: u64 = 0x10_0000_0000_0000;
 // 2 ^ 26: how near d has to be to an end of its range for `root_near_one`
 const NEAR: u64 = 0x400_0000;
 
-// `f64::sqrt`. A zero of either sign, +∞ and NaN are their own roots.
+/// `f64::sqrt`. For a finite value above zero it is the binary64 nearest to the exact root, by IEEE
+/// 754. A zero of either sign, +∞ and NaN are their own roots; what lies below zero has a NaN for
+/// one.
 pub fn sqrt(x: f64) -> f64
-    ensures { result ≡ Root.sqrt x }
+    ensures result { result ≡ Root.sqrt x }
+    ensures nearest { T (is_finite x) → T (lt zero x) → CorrectlyRounded x result }
 {
     if 0.0 < x {
         let b = f64::to_bits(x);

@@ -4,7 +4,7 @@ use Rattle.std.specs.List.{range_with_len}
 use Rattle.std.specs.Float.Ieee.{le}
 use Rattle.numerics.specs.Binary64.{◌⊕◌, ◌⊖◌, ◌⊗◌, ◌⊘◌, zero, neg_zero}
 use Rattle.root.specs.Root.{sqrt}
-use Rattle.numerics.specs.Vectors.{◌!◌, sum, all_finite}
+use Rattle.numerics.specs.Vectors.{◌!◌, sum, zeros, all_finite}
 use Rattle.refusal.specs.declared.Refusal.{Refusal}
 use Rattle.refusal.specs.declared.Refusal.TheVariants.{NotSolved}
 use Rattle.solver.specs.declared.Lower.{Lower}
@@ -86,6 +86,10 @@ backward l y =
 
 unfoldable pub solution : List Float → List Float → List Float
 solution l b = backward l (forward l b)
+
+-- five times +0: what stands beside a refusal
+abbrev pub no_solution : List Float
+no_solution = zeros 5
 
 -- Row 11 where any input, any sum or any result is not finite or a pivot ≤ 0. The Rust leaves at the first of these; what it would have worked out afterwards decides nothing.
 unfoldable pub solve_positive_definite : List Float → List Float → Result (List Float) Refusal

@@ -1,11 +1,14 @@
 // SPDX-FileCopyrightText: 2026 Pierre Moulon and OpenMVG Rust contributors
 // SPDX-License-Identifier: MIT OR Apache-2.0
 
-// `solve_positive_definite` of numerics/refine/solver.rs, for 5 unknowns. The matrix is 25 numbers, row by row.
+//! The solution of a positive definite system of 5 unknowns by Cholesky's method:
+//! `solve_positive_definite` of numerics/refine/solver.rs. The matrix is 25 numbers, row by row.
 #![tactic(auto)]
 
 ghost use Rattle.std.specs.Prelude.{◌≡◌, ◌<◌, ◌≤◌};
+ghost use Rattle.refusal.specs.Answer.{answer};
 ghost use Rattle.solver.specs.Solver as Solver;
+ghost use Rattle.solver.specs.Solver.{no_solution};
 
 use numerics::vectors;
 use refusal::Refusal;
@@ -18,11 +21,12 @@ struct Lower {
     entries: [f64; 25],
 }
 
-// The solution of a x = b by Cholesky's method. Row 11 where an input, a sum or a result is not finite
-// or a pivot is not above 0.
+/// The solution of `a x = b`. Refused with row 11 where an entry of `a` or `b`, a sum or a result is
+/// not finite, or a pivot is not above 0.
 #[tactic(auto, unfolding(crate::specs::Solver::solve_positive_definite))]
 pub fn solve_positive_definite(a: [f64; 25], b: [f64; 5]) -> Result<[f64; 5], Refusal>
-    ensures { result ≡ Solver.solve_positive_definite a b }
+    ensures result { result ≡ Solver.solve_positive_definite a b }
+    ensures answer { answer no_solution result ≡ answer no_solution (Solver.solve_positive_definite a b) }
 {
     let lower = lower_of(a);
     let x = solution(lower.entries, b);

@@ -131,14 +131,26 @@ root_of_pattern-requires c = (some_bits c.args.x (held _ c.well_formed.0.1) c.if
 pub float_from_bits-result : goal.float_from_bits-result
 float_from_bits-result c = no_nan c.args.x (held _ c.well_formed.0.1) c.if-x.true c.if-b-lt-INFINITY.true _ c.root_of_pattern.ensures
 
+-- what is the definition's root is IEEE 754's, where x is finite and above zero
+nearest : (x r : Float) → fits binary64 x ≡ true → r ≡ sqrt x → T (is_finite x) → T (lt Binary64.zero x) → CorrectlyRounded x r
+nearest x r f e finite above = subst (CorrectlyRounded x) (sym e) (sqrt_correct x (held x f) finite above)
+
 pub returns-then-b-lt-INFINITY : goal.returns-then-b-lt-INFINITY
-returns-then-b-lt-INFINITY c = root c.args.x (held _ c.well_formed.0.1) c.if-x.true c.if-b-lt-INFINITY.true _ c.root_of_pattern.ensures
+returns-then-b-lt-INFINITY c =
+    let e = root c.args.x (held _ c.well_formed.0.1) c.if-x.true c.if-b-lt-INFINITY.true _ c.root_of_pattern.ensures in
+    record { result = e; nearest = nearest _ _ c.well_formed.0.1 e }
 
 pub returns-then-x : goal.returns-then-x
-returns-then-x c = infinite c.args.x (held _ c.well_formed.0.1) c.if-b-lt-INFINITY.false c.if-x.true
+returns-then-x c =
+    let e = infinite c.args.x (held _ c.well_formed.0.1) c.if-b-lt-INFINITY.false c.if-x.true in
+    record { result = e; nearest = nearest _ _ c.well_formed.0.1 e }
 
 pub returns-then-x-2 : goal.returns-then-x-2
-returns-then-x-2 c = nan_of_pattern ∙ negative_root c.args.x c.if-x-2.true
+returns-then-x-2 c =
+    let e = nan_of_pattern ∙ negative_root c.args.x c.if-x-2.true in
+    record { result = e; nearest = nearest _ _ c.well_formed.0.1 e }
 
 pub returns-else-x-2 : goal.returns-else-x-2
-returns-else-x-2 c = zero_root c.args.x c.if-x.false c.if-x-2.false
+returns-else-x-2 c =
+    let e = zero_root c.args.x c.if-x.false c.if-x-2.false in
+    record { result = e; nearest = nearest _ _ c.well_formed.0.1 e }

@@ -15,7 +15,7 @@ pub loop-j-preserved : goal.loop-j-preserved
 loop-j-preserved c =
     let next = entry_next _ _ _ _ _ _ c.loop-j.invariant c.products.ensures in
     elim c.if-i-j.branch [
-      | then-i-j w ↦ rw (w.entries-is, w.sqrt.ensures) (simp (eq-eqb _ _ w.if-i-j.true) at next)
+      | then-i-j w ↦ rw (w.entries-is, w.sqrt.ensures.result) (simp (eq-eqb _ _ w.if-i-j.true) at next)
       | else-i-j w ↦ rw w.entries-is (simp (ne_eqb _ _ w.if-i-j.false) at next)
     ]
 
