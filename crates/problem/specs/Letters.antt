@@ -11,8 +11,8 @@ use Rattle.problem.specs.declared.letters.Grade.TheVariants.{NotFactored, Weak, 
 unfoldable pub of : LocalLinearization → Float → Grade
 of b damping =
     elim (factor b.point_hessian damping) [
-      Ok f ↦ cond (is_zero damping) (cond (is_weak (reciprocal_condition_number f.inverse b.point_hessian)) Weak Good) Factored
-    | Err r ↦ NotFactored
+      | Ok f ↦ cond (is_zero damping) (cond (is_weak (reciprocal_condition_number f.inverse b.point_hessian)) Weak Good) Factored
+      | Err r ↦ NotFactored
     ]
 
 -- `n` does not factor; at damping zero `w` is weak and `g` good; at other dampings `f` factors

@@ -65,7 +65,8 @@ impl<'a> CheckedProblem<'a> {
 
     /// The problem as one whose lengths fit
     pub fn fitting(&self) -> FittingProblem<'a>
-        ensures { Problems.of result.problem.now ≡ self.now }
+        ensures problem { Problems.of result.problem.now ≡ self.now }
+        ensures checked { Checks.check self.now ≡ Ok tt }
     {
         self.fitting
     }
