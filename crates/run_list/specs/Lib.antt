@@ -2,3 +2,4 @@
 pub mod Lines
 pub mod SumLine
 pub mod Lists
+pub mod Theorems

@@ -4,3 +4,8 @@
 
 mod lines;
 pub mod record;
+mod theorems;
+
+pub use theorems::{
+    list_is_decided_by_a_prefix, no_list_is_longer, no_row_before_3, sums_are_never_nan,
+};
