@@ -21,7 +21,6 @@ use Rattle.schur.specs.Model.{is_valid}
 use Rattle.schur.specs.declared.reduced_system.ReducedSystem.{ReducedSystem}
 use Rattle.problem.specs.Checks as Checks
 use Rattle.optimizer.specs.Assembly.{block_at, reduced_system}
-use Rattle.problem.proofs.Passed.{checked}
 use Rattle.optimizer.proofs.Blocks.{weak_at_most, costs_are_numbers}
 use Rattle.text.specs.Hex.{digits}
 use Rattle.run_record.specs.Fields.{point_fields}
@@ -159,8 +158,7 @@ refused_length refusal =
 lines_length : (p : Problem) → Checks.check p ≡ Ok tt → count p ≤ 512 → length (lines_of p (reduced_system p)) ≤ max_list
 unfolding lines_of
 lines_length p e n =
-    let k = checked p e in
-    let m = weak_at_most p k.1 k.0.3 in
+    let m = weak_at_most p in
     let a = length-append (run_line (count p) p.damping ++ point_lines p (count p)) (sum_line (reduced_system p)) in
     let b = length-append (run_line (count p) p.damping) (point_lines p (count p)) in
     let c = run_length (count p) p.damping (omega arith) in
@@ -184,7 +182,7 @@ list_fits r = by (result_and (Form.check r) (Checks.check (run r))) refl
 pub sums_are_numbers : (r : List ℕ) → check r ≡ Ok tt → NeverNan r
 unfolding check
 sums_are_numbers r e =
-    let n = costs_are_numbers (run r) (checked (run r) (after_ok (Form.check r) (Checks.check (run r)) e).1).1 in
+    let n = costs_are_numbers (run r) (after_ok (Form.check r) (Checks.check (run r)) e).1 in
     record { cost = n.0; squared = n.1 }
 
 -- ---- written

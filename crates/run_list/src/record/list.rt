@@ -1,5 +1,5 @@
 // The list of a run record.
-ghost use Rattle.std.specs.Prelude.{◌≡◌, Ok};
+ghost use Rattle.std.specs.Prelude.{◌≡◌};
 ghost use Rattle.problem.specs.Checks as Checks;
 ghost use Rattle.problem.specs.Letters as Letters;
 ghost use Rattle.problem.specs.Problem as Problems;
@@ -9,10 +9,11 @@ ghost use Rattle.text.specs.Text as Text;
 
 use crate::lines;
 use optimizer::assembly;
-use problem::correspondences::Problem;
+use point_block::point_damping::ValidDamping;
+use problem::checks::CheckedProblem;
+use problem::correspondences::{Problem, ProblemPoint};
 use problem::letters;
 use run_record::run;
-use schur::reduced_system::ReducedSystem;
 use std::error::Error;
 use std::fmt;
 use text::Writer;
@@ -63,47 +64,47 @@ fn put_list(out: &mut [u8], record: &[u8]) -> usize
 }
 
 // The list of a run: rows 3 to 9, then the lines
-#[tactic(auto, unfolding(optimizer::specs::Assembly::reduced), using(crate::proofs::Runs::passed))]
 fn put_listed(writer: &mut Writer, problem: &Problem)
     ensures { let p = Problems.of problem.now in
         Text.Wrote (Lists.listed p (Checks.check p)) writer.old writer.new }
 {
-    match assembly::reduced_system(problem) {
-        Ok(system) => put_lines(writer, problem, system),
+    match CheckedProblem::new(problem) {
+        Ok(checked) => put_lines(writer, &checked),
         Err(refusal) => lines::put_refused(writer, refusal),
     }
 }
 
 // The lines of a run that is not refused
 #[tactic(auto, using(text::proofs::Wrote::wrote_both), unfolding(crate::specs::Lists::lines_of))]
-fn put_lines(writer: &mut Writer, problem: &Problem, system: ReducedSystem)
-    requires { Checks.check (Problems.of problem.now) ≡ Ok tt }
-    ensures { Text.Wrote (Lists.lines_of (Problems.of problem.now) system) writer.old writer.new }
+fn put_lines(writer: &mut Writer, problem: &CheckedProblem)
+    ensures { Text.Wrote (Lists.lines_of problem.now (Assembly.reduced_system problem.now))
+        writer.old writer.new }
 {
-    lines::put_run(writer, problem.count() as u32, problem.damping);
+    let fitting = problem.fitting();
+    lines::put_run(writer, fitting.count(), fitting.problem.damping);
     put_points(writer, problem);
-    lines::put_sum(writer, system);
+    lines::put_sum(writer, assembly::reduced_system(problem));
 }
 
 // A line for each point, with its index
 #[tactic(auto, using(crate::proofs::Runs::no_lines, crate::proofs::Runs::next_line))]
-fn put_points(writer: &mut Writer, problem: &Problem)
-    requires { Checks.check (Problems.of problem.now) ≡ Ok tt }
-    ensures { let p = Problems.of problem.now in
-        Text.Wrote (Lists.point_lines p (Problems.count p)) writer.old writer.new }
+fn put_points(writer: &mut Writer, problem: &CheckedProblem)
+    ensures { Text.Wrote (Lists.point_lines problem.now (Problems.count problem.now))
+        writer.old writer.new }
 {
-    // by index, as a point's numbers stand in four lists
-    for i in 0..problem.count() as u32 {
-        lines::put_point(writer, i, letter_at(problem, i));
+    let fitting = problem.fitting();
+    let damping = problem.damping();
+    for index in 0..fitting.count() {
+        let point = ProblemPoint { fitting, index };
+        lines::put_point(writer, index, letter_of(point, damping));
     }
 }
 
-// How the block of a point factors, at the problem's damping
-fn letter_at(problem: &Problem, i: u32) -> u8
-    requires { Checks.check (Problems.of problem.now) ≡ Ok tt }
-    ensures { let p = Problems.of problem.now in
-        result ≡ Letters.letter (Assembly.block_at p i) p.damping }
+// How the block of a point factors at a damping
+fn letter_of(point: ProblemPoint, damping: ValidDamping) -> u8
+    ensures { result ≡ Letters.letter
+        (Assembly.block_at (Problems.of point.entry.fitting.problem.now) point.entry.index) damping }
 {
-    let block = assembly::block_of(problem.rig, problem.correspondence_at(i));
-    letters::letter(block, problem.damping)
+    let block = linearization::block_of(&point.fitting.problem.rig, point.correspondence());
+    letters::letter(block, damping)
 }
