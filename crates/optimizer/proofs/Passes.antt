@@ -1,6 +1,5 @@
 -- The pass over all points that fills the room with their steps, and its sums. Assumes nothing.
 use mathlib.Core.Path.{◌≡◌, refl, sym, ap, ◌∙◌}
-use mathlib.Core.Bool.{Bool, true, false, cond}
 use mathlib.Core.List.{List, ◌++◌, append_assoc}
 use Prim.Native.Nat.{ℕ, zero, suc, ◌+◌, ◌-◌, ◌*◌}
 use borrow.Rule.Slice.PartMut.{put_mid, post_of}
@@ -9,46 +8,16 @@ use native.Mathlib.Omega.{arith}
 use lib.ListN.{length, drop, length-append}
 use lib.Seq.{take_at, drop_at, drop-drop}
 use lib.Ieee.{Float}
-use Rattle.numerics.specs.Binary64.{◌⊕◌}
-use Rattle.std.specs.Prelude.{Result, Ok, Err}
-use Rattle.std.specs.Result.{result_unwrap_or}
-use Rattle.refusal.specs.declared.Refusal.{Refusal}
-use Rattle.refusal.specs.declared.Refusal.TheVariants.{Damping}
-use Rattle.point_block.specs.Damping.{good_damping, damping_diagonal}
-use Rattle.point_block.specs.declared.PointBlockFactor.{PointBlockFactor}
-use Rattle.linearization.specs.declared.terms.PointTerms.{PointTerms}
-use Rattle.point_block.specs.Lone.{factor}
-use Rattle.linearization.specs.Linearize.{point_terms}
-use Rattle.schur.specs.PointStep.{step_of, damping_norm, stepped, step_of_terms, point_step}
-use Rattle.linearization.specs.declared.linearize.LocalLinearization.{LocalLinearization}
+use Rattle.numerics.specs.Binary64.{◌⊕◌, zero as zero·}
+use Rattle.schur.specs.PointStep.{step_of, stepped}
 use Rattle.schur.specs.declared.point_step.PointStep.{PointStep}
-use Rattle.problem.specs.Problem.{Problem, correspondence_at}
-use Rattle.optimizer.specs.Assembly.{block_of}
-use Rattle.optimizer.specs.PointSteps.{point_step_of, still, step_at, steps_to, squared_norm, no_steps, sums_to}
-
-step_length : (b : LocalLinearization) (d : Float) (s : List Float) → length (result_unwrap_or (point_step b d s) still).step ≡ 3
-unfolding point_step step_of_terms point_terms stepped step_of
-step_length b d s = by (good_damping d) (factor b.point_hessian d) (damping_diagonal b.point_hessian)
-  where
-    t : PointTerms
-    t = record { cross_hessian = b.cross_hessian; point_hessian = b.point_hessian; point_gradient = b.point_gradient }
-
-    moved : PointBlockFactor → Result (List Float) Refusal → Result PointStep Refusal
-    moved f r =
-        let step = step_of f.inverse t s in
-        elim r [ Ok d ↦ Ok (record { step = step; damping_norm = damping_norm d step }) | Err e ↦ Err e ]
-
-    by : (x : Bool) (f : Result PointBlockFactor Refusal) (r : Result (List Float) Refusal)
-        → length (result_unwrap_or (cond x (elim f [ Ok g ↦ moved g r | Err e ↦ Err e ]) (Err Damping)) still).step ≡ 3
-    by true (Ok f) (Ok r) = refl
-    by true (Ok f) (Err e) = refl
-    by true (Err e) r = refl
-    by false f r = refl
+use Rattle.problem.specs.Problem.{Problem}
+use Rattle.optimizer.specs.PointSteps.{step_at, steps_to, squared_norm, sums_to}
 
 module _ (p : Problem) (s : List Float) where
   step_three : (i : ℕ) → length (step_at p s i).step ≡ 3
-  unfolding point_step_of
-  step_three i = step_length (block_of p.rig (correspondence_at p i)) p.damping s
+  unfolding stepped step_of
+  step_three i = refl
 
   pub steps_length : (n : ℕ) → length (steps_to p s n) ≡ 3 * n
   unfolding steps_to
@@ -80,9 +49,9 @@ module _ (p : Problem) (s : List Float) where
 
   -- ---- their sums
 
-  pub sums_none : sums_to p s 0 ≡ no_steps
+  pub sums_none : ((sums_to p s 0).squared ≡ zero·) × ((sums_to p s 0).damping_norm ≡ zero·)
   unfolding sums_to
-  sums_none = refl
+  sums_none = (refl, refl)
 
   pub squared_next : (i : ℕ) (q y : Float) (x : List Float) → q ≡ (sums_to p s i).squared → x ≡ (step_at p s i).step → y ≡ squared_norm x → q ⊕ y ≡ (sums_to p s (i + 1)).squared
   unfolding sums_to

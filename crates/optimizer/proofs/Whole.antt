@@ -1,5 +1,5 @@
 -- The whole step: what each way out of it gives. Assumes nothing.
-use Rattle.std.proofs.Common.{◌≡◌, ℕ, ◌*◌, ◌≤◌, List, length, Bool, true, false, refl, sym, ap, ◌∙◌}
+use Rattle.std.proofs.Common.{◌≡◌, ℕ, ◌*◌, List, length, Bool, true, false, refl, sym, ap, ◌∙◌}
 use Rattle.std.specs.Prelude.{Result, Ok, Err}
 use Rattle.std.specs.Result.{result_and}
 use borrow.Author.Tests.{eqb-true, ne_eqb}
@@ -10,18 +10,18 @@ use Rattle.refusal.specs.declared.Refusal.{Refusal}
 use Rattle.refusal.specs.declared.Refusal.TheVariants.{Lengths, NotFactored}
 use Rattle.solver.specs.Solver.{solve_positive_definite}
 use Rattle.schur.specs.Model.{is_valid}
-use Rattle.optimizer.specs.PoseStep.{pose_step}
-use Rattle.optimizer.specs.Results.{finished}
-use Rattle.optimizer.specs.PointSteps.{Wrote}
-use Rattle.optimizer.specs.declared.point_steps.Sums.{Sums}
 use Rattle.schur.specs.declared.reduced_system.ReducedSystem.{ReducedSystem}
-use Rattle.optimizer.specs.declared.step_result.StepResult.{StepResult}
 use Rattle.problem.specs.Problem.{Problem, count}
 use Rattle.problem.specs.Checks as Checks
-use Rattle.problem.proofs.Passed.{checked}
-use Rattle.optimizer.specs.Assembly.{reduced_system, reduced}
-use Rattle.optimizer.proofs.PointStepsLaws.{no_step_refused}
-use Rattle.optimizer.specs.Step.{pose_step_of, stepped, solved_step, check, step, written, Done}
+use Rattle.problem.proofs.Passed.{passed}
+use Rattle.optimizer.specs.Assembly.{reduced_system}
+use Rattle.optimizer.specs.PoseStep.{pose_step}
+use Rattle.optimizer.specs.PointSteps.{steps_to, sums_to}
+use Rattle.optimizer.specs.Results.{finished}
+use Rattle.optimizer.specs.Step.{stepped, solved_step, check, step, written, Done}
+use Rattle.optimizer.specs.declared.point_steps.Sums.{Sums}
+use Rattle.optimizer.specs.declared.step_result.StepResult.{StepResult}
+use Rattle.optimizer.proofs.PointStepsLaws.{none_refused}
 
 -- ---- row 1 with the room: the points' length decides where the two agree, and one of them is wrong where they do not
 
@@ -45,25 +45,23 @@ lengths_agree p room t = by (eqb room (3 * count p)) refl
     by true q = refl
     by false q = sym (points_short p (ap (λ (l : ℕ). eqb l (3 * count p)) (sym t) ∙ q))
 
--- ---- a system that is refused has the checks' refusal, and one that is not is the problem's
+-- ---- a problem that is refused has the checks' refusal, and one that is let through stays as it is
 
--- the answer on a system, by that of the checks
-abbrev reduced_by : Problem → Checked → Result ReducedSystem Refusal
-reduced_by p r = result_and r (Ok (reduced_system p))
+-- what the test of rows 1 to 9 answers
+abbrev tested : Problem → Result Problem Refusal
+tested p = result_and (Checks.check p) (Ok p)
 
-refused_by : (p : Problem) (e : Refusal) → reduced p ≡ Err e → Checks.check p ≡ Err e
-unfolding reduced
+refused_by : (p : Problem) (e : Refusal) → tested p ≡ Err e → Checks.check p ≡ Err e
 refused_by p e h = by (Checks.check p) h
   where
-    by : (r : Checked) → reduced_by p r ≡ Err e → r ≡ Err e
+    by : (r : Checked) → result_and r (Ok p) ≡ Err e → r ≡ Err e
     by (Ok u) k = absurd (cc)
     by (Err x) k = cc
 
-given_by : (p : Problem) (s : ReducedSystem) → reduced p ≡ Ok s → (Checks.check p ≡ Ok tt) × (s ≡ reduced_system p)
-unfolding reduced
-given_by p s h = by (Checks.check p) h
+let_through : (p q : Problem) → tested p ≡ Ok q → (Checks.check p ≡ Ok tt) × (q ≡ p)
+let_through p q h = by (Checks.check p) h
   where
-    by : (r : Checked) → reduced_by p r ≡ Ok s → (r ≡ Ok tt) × (s ≡ reduced_system p)
+    by : (r : Checked) → result_and r (Ok p) ≡ Ok q → (r ≡ Ok tt) × (q ≡ p)
     by (Ok u) k = (refl, cc)
     by (Err x) k = absurd (cc)
 
@@ -71,50 +69,53 @@ given_by p s h = by (Checks.check p) h
 
 module _ (p : Problem) (room : List Float) where
   refuses : (e : Refusal) → check p (length room) ≡ Err e → Done p room (Err e) room
-  unfolding step written
+  unfolding step
   refuses e h = record { result = rw h refl; room_after = refl; none_refused = λ y. absurd (cc) }
 
   pub wrong_room : (length room ≡ length p.points → ⊥) → Done p room (Err Lengths) room
   wrong_room t = refuses Lengths (lengths_differ p (length room) t)
 
   module _ (t : length room ≡ length p.points) where
-    pub checks_refused : (e : Refusal) (r : Result StepResult Refusal) → reduced p ≡ Err e → r ≡ Err e → Done p room r room
+    pub checks_refused : (e : Refusal) (r : Result StepResult Refusal) → tested p ≡ Err e → r ≡ Err e → Done p room r room
     checks_refused e r h k = rw k (refuses e (lengths_agree p (length room) t ∙ refused_by p e h))
 
-    module _ (s : ReducedSystem) (h : reduced p ≡ Ok s) where
-      -- what a system that is not refused leaves for the step
-      pub fits : (count p ≤ Checks.max_points) × (length room ≡ 3 * count p) × (s ≡ reduced_system p)
-      fits =
-          let g = given_by p s h in
-          let k = (checked p g.0).0 in
-          (k.3, t ∙ k.0, g.1)
+    module _ (q : Problem) (h : tested p ≡ Ok q) where
+      ok : Checks.check p ≡ Ok tt
+      ok = (let_through p q h).0
+
+      same : q ≡ p
+      same = (let_through p q h).1
+
+      -- the room has three numbers a point
+      pub room_fits : length room ≡ 3 * count q
+      room_fits = t ∙ (passed p ok).fits.0 ∙ ap (λ (o : Problem). 3 * count o) (sym same)
 
       done : (r : Result StepResult Refusal) (after : List Float) → r ≡ solved_step p → after ≡ written p r room → Done p room r after
       unfolding step
-      done r after e f =
-          let g = given_by p s h in
-          let k = checked p g.0 in
-          record {
-            result = e ∙ rw (lengths_agree p (length room) t, g.0) refl;
-            room_after = f;
-            none_refused = λ y v. no_step_refused p k.1 k.0.3 v;
-          }
+      done r after e f = record {
+        result = e ∙ rw (lengths_agree p (length room) t, ok) refl;
+        room_after = f;
+        none_refused = λ y. none_refused p ok;
+      }
 
-      pub not_valid : is_valid s ≡ false → Done p room (Err NotFactored) room
-      unfolding solved_step written
-      not_valid e = done (Err NotFactored) room (rw (sym fits.2, e) refl) refl
+      module _ (s : ReducedSystem) (system : s ≡ reduced_system q) where
+        made : s ≡ reduced_system p
+        made = system ∙ ap reduced_system same
 
-      module _ (valid : is_valid s ≡ true) where
-        pub not_solved : (e : Refusal) (r : Result StepResult Refusal) → solve_positive_definite s.hessian s.gradient ≡ Err e → r ≡ Err e → Done p room r room
-        unfolding solved_step written
-        not_solved e r q k = rw k (done (Err e) room (rw (sym fits.2, valid, q) refl) refl)
+        pub not_valid : is_valid s ≡ false → Done p room (Err NotFactored) room
+        unfolding solved_step
+        not_valid e = done (Err NotFactored) room (rw (sym made, e) refl) refl
 
-        pub solved : (x v : List Float) (n : ℕ) (sums : Sums) (after : List Float) (t : StepResult) → solve_positive_definite s.hessian s.gradient ≡ Ok x → v ≡ pose_step x
-            → Wrote p v room sums after
-            → n ≡ count p
-            → t ≡ finished s v p.damping n sums.squared sums.damping_norm
-            → Done p room (Ok t) after
-        unfolding solved_step stepped pose_step_of written
-        solved x v n sums after t q k w e f =
-            let all = w.fits (fits.0, fits.1) in
-            done (Ok t) after (ap Ok f ∙ rw (sym fits.2, valid, q, sym k, e, all.0) refl) (all.1 ∙ rw (sym fits.2, q, k) refl)
+        module _ (valid : is_valid s ≡ true) where
+          pub not_solved : (e : Refusal) (r : Result StepResult Refusal) → solve_positive_definite s.hessian s.gradient ≡ Err e → r ≡ Err e → Done p room r room
+          unfolding solved_step
+          not_solved e r k l = rw l (done (Err e) room (rw (sym made, valid, k) refl) refl)
+
+          pub solved : (x v : List Float) (sums : Sums) (after : List Float) (u : StepResult) → solve_positive_definite s.hessian s.gradient ≡ Ok x → v ≡ pose_step x
+              → sums ≡ sums_to q v (count q)
+              → after ≡ steps_to q v (count q)
+              → u ≡ finished s v q.damping (count q) sums.squared sums.damping_norm
+              → Done p room (Ok u) after
+          unfolding solved_step stepped finished
+          solved x v sums after u k l e f g =
+              done (Ok u) after (ap Ok g ∙ rw (e, l, same, sym made, valid, k) refl) (f ∙ rw (same, g) refl)

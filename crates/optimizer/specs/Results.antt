@@ -1,11 +1,10 @@
 -- What a whole step gives: document 01, "One whole step".
 use Rattle.std.specs.Prelude.{ℕ, List, pos, Float}
-use Rattle.std.specs.Result.{result_unwrap_or}
 use Rattle.std.specs.Float.{binary64}
 use Rattle.std.specs.Float.Ieee.{of_int}
-use Rattle.numerics.specs.Binary64.{◌⊘◌, zero}
+use Rattle.numerics.specs.Binary64.{◌⊘◌}
 use Rattle.root.specs.Root.{sqrt}
-use Rattle.schur.specs.Model.{gradient_inf_norm, predicted_reduction}
+use Rattle.schur.specs.Model.{gradient_inf_norm, reduction_of}
 use Rattle.schur.specs.declared.reduced_system.ReducedSystem.{ReducedSystem}
 use Rattle.optimizer.specs.declared.step_result.StepResult.{StepResult}
 
@@ -23,5 +22,5 @@ finished system s damping n squared damping_norm = record {
   minimum_point_rcond = system.minimum_point_rcond;
   point_step_rms = rms squared n;
   point_damping_norm = damping_norm;
-  predicted_reduction = result_unwrap_or (predicted_reduction system s damping damping_norm) zero;
+  predicted_reduction = reduction_of system s damping damping_norm;
 }

@@ -1,39 +1,35 @@
 -- `refine_impl` of optimizer.rs from `reduced_system` to `predicted_reduction`, once: document 01, "One whole step".
-use Rattle.std.specs.Prelude.{ℕ, ◌*◌, ◌<◌, ◌≡◌, true, cond, List, eqb, length, Float, Result, Ok, Err, is_ok}
-use Rattle.std.specs.Result.{result_and, result_unwrap_or}
-use Rattle.numerics.specs.Vectors.{zeros}
+use Rattle.std.specs.Prelude.{ℕ, suc, ◌*◌, ◌<◌, ◌≡◌, true, cond, List, eqb, length, Float, Result, Ok, Err}
+use Rattle.std.specs.Result.{result_and}
 use Rattle.refusal.specs.First.{Checked, unless}
+use Rattle.refusal.specs.Refused.{map_ok}
 use Rattle.refusal.specs.declared.Refusal.{Refusal}
 use Rattle.refusal.specs.declared.Refusal.TheVariants.{Lengths, NotFactored}
-use Rattle.problem.specs.Problem.{Problem, count}
+use Rattle.linearization.specs.Linearize.{linearize_point}
+use Rattle.problem.specs.Problem.{Problem, count, correspondence_at}
 use Rattle.problem.specs.Checks as Checks
 use Rattle.solver.specs.Solver.{solve_positive_definite}
-use Rattle.schur.specs.Model.{is_valid}
-use Rattle.optimizer.specs.Assembly.{reduced_system}
+use Rattle.schur.specs.System.{add}
+use Rattle.schur.specs.Model.{is_valid, finish_damping, predicted_reduction, reduction_of}
+use Rattle.optimizer.specs.Assembly.{block_at, system_to, reduced_system}
 use Rattle.optimizer.specs.PoseStep.{pose_step}
-use Rattle.optimizer.specs.PointSteps.{answer_at, steps_to, sums_to}
+use Rattle.optimizer.specs.PointSteps.{answer_at, step_at, steps_to, sums_to}
 use Rattle.optimizer.specs.Results.{finished}
 use Rattle.optimizer.specs.declared.step_result.StepResult.{StepResult}
 
--- ---- the step of the pose
-
+-- the solution for the pose
 abbrev pub solved_of : Problem → Result (List Float) Refusal
 solved_of p = solve_positive_definite (reduced_system p).hessian (reduced_system p).gradient
 
--- the limited step of a valid system that is solved
-unfoldable pub pose_step_of : Problem → List Float
-pose_step_of p = pose_step (result_unwrap_or (solved_of p) (zeros 5))
-
--- ---- the whole
-
-unfoldable pub stepped : Problem → StepResult
-stepped p =
-    let sums = sums_to p (pose_step_of p) (count p) in
-    finished (reduced_system p) (pose_step_of p) p.damping (count p) sums.squared sums.damping_norm
+-- the result with a limited step of the pose
+unfoldable pub stepped : Problem → List Float → StepResult
+stepped p s =
+    let sums = sums_to p s (count p) in
+    finished (reduced_system p) s p.damping (count p) sums.squared sums.damping_norm
 
 -- rows 10 and 11, then the step
 unfoldable pub solved_step : Problem → Result StepResult Refusal
-solved_step p = cond (is_valid (reduced_system p)) (result_and (solved_of p) (Ok (stepped p))) (Err NotFactored)
+solved_step p = cond (is_valid (reduced_system p)) (map_ok (λ x. stepped p (pose_step x)) (solved_of p)) (Err NotFactored)
 
 -- rows 1 to 9, the room's length included
 unfoldable pub check : Problem → ℕ → Checked
@@ -44,14 +40,20 @@ unfoldable pub step : Problem → ℕ → Result StepResult Refusal
 step p room = result_and (check p room) (solved_step p)
 
 -- the room after a call that answers r: all point steps, or what it held before
-unfoldable pub written : Problem → Result StepResult Refusal → List Float → List Float
-written p r room = cond (is_ok r) (steps_to p (pose_step_of p) (count p)) room
+abbrev pub written : Problem → Result StepResult Refusal → List Float → List Float
+written p (Ok r) room = steps_to p r.pose_step (count p)
+written p (Err e) room = room
 
--- "Once the system is valid no point step is refused": whatever the step of the pose
-abbrev pub NoneRefused : Problem → Type 0
-NoneRefused p = is_valid (reduced_system p) ≡ true → (i : ℕ) → i < count p → (s : List Float) → is_ok (answer_at p s i) ≡ true
+-- What the calls by themselves answer on a problem that rows 1 to 9 let through: each point has its block, each block is taken in, and, once the system is valid, no point step is
+-- refused, whatever the step of the pose.
+pub record NoneRefused (p : Problem) : Type 0 where
+  pub blocks : (i : ℕ) → i < count p → linearize_point p.rig (correspondence_at p i) ≡ Ok (block_at p i)
+  pub adds : (i : ℕ) → i < count p → add (system_to p i) (block_at p i) p.damping ≡ Ok (system_to p (suc i))
+  pub damping : finish_damping (system_to p (count p)) p.damping ≡ Ok (reduced_system p)
+  pub steps : is_valid (reduced_system p) ≡ true → (i : ℕ) → i < count p → (s : List Float) → answer_at p s i ≡ Ok (step_at p s i)
+  pub prediction : (s : List Float) (norm : Float) → predicted_reduction (reduced_system p) s p.damping norm ≡ Ok (reduction_of (reduced_system p) s p.damping norm)
 
--- what a call promises: its answer, the room, and, where rows 1 to 9 let the problem through, that no point step of a valid system is refused
+-- what a call promises: its answer, the room, and, where rows 1 to 9 let the problem through, that nothing within it is refused but by rows 10 and 11
 pub record Done (p : Problem) (room : List Float) (r : Result StepResult Refusal) (after : List Float) : Type 0 where
   pub result : r ≡ step p (length room)
   pub room_after : after ≡ written p r room

@@ -5,7 +5,7 @@
 #![tactic(auto)]
 
 pub mod assembly;
-pub mod point_steps;
+mod point_steps;
 pub mod pose_step;
 mod step_result;
 mod whole_step;

@@ -4,8 +4,11 @@
 // What a whole step gives: kernel/two_view/optimizer.rs.
 
 ghost use Rattle.std.specs.Prelude.{◌≡◌};
+ghost use Rattle.problem.specs.Problem as Problems;
 ghost use Rattle.optimizer.specs.Results as Results;
 
+use crate::point_steps::Sums;
+use problem::checks::CheckedProblem;
 use schur::reduced_system::ReducedSystem;
 
 #[derive(Clone, Copy)]
@@ -22,20 +25,19 @@ pub struct StepResult {
 }
 
 impl StepResult {
-    // Of a system, its limited step, and the squared lengths and damping norms of n point steps, summed.
-    // A whole step tests row 3 first; at a damping that row 3 refuses the predicted reduction is +0.
+    /// Of a problem with its system, its limited step, and what its point steps add up to
     #[tactic(auto, unfolding(crate::specs::Results::finished))]
-    pub fn finished(
+    pub(crate) fn of(
+        problem: &CheckedProblem,
         system: ReducedSystem,
         pose_step: [f64; 5],
-        damping: f64,
-        n: u32,
-        squared: f64,
-        damping_norm: f64,
+        sums: Sums,
     ) -> Self
-        ensures { result ≡ Results.finished system pose_step damping n squared damping_norm }
+        ensures { result ≡ Results.finished system pose_step problem.now.damping
+            (Problems.count problem.now) sums.squared sums.damping_norm }
     {
-        let predicted = system.predicted_reduction(pose_step, damping, damping_norm);
+        let n = problem.fitting().count();
+        let damping_norm = sums.damping_norm;
         Self {
             pose_step,
             cost: system.cost,
@@ -43,9 +45,9 @@ impl StepResult {
             gradient_norm: system.scaled_gradient_inf_norm(),
             weak_point_count: system.weak_point_count,
             minimum_point_rcond: system.minimum_point_rcond,
-            point_step_rms: root::sqrt(squared / n as f64),
+            point_step_rms: root::sqrt(sums.squared / n as f64),
             point_damping_norm: damping_norm,
-            predicted_reduction: predicted.unwrap_or(0.0),
+            predicted_reduction: system.reduction_of(pose_step, problem.damping(), damping_norm),
         }
     }
 }

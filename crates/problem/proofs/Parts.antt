@@ -19,7 +19,7 @@ use Rattle.refusal.specs.declared.View.{View}
 use Rattle.refusal.specs.declared.View.TheVariants.{First, Second}
 use Rattle.refusal.proofs.Scans.{Scanned}
 use Rattle.projection.specs.declared.Projected.{Projected}
-use Rattle.problem.specs.Problem.{Problem, triple, pair, observation, project}
+use Rattle.problem.specs.Problem.{Problem, triple, observation, project}
 use Rattle.problem.specs.Checks.{check_view, check_projection}
 
 -- by quotient and remainder
@@ -60,12 +60,8 @@ pub views_begin : (p : Problem) (i : ℕ) → Scanned (check_projection p i) (ch
 unfolding first
 views_begin p i = (omega arith, none_after (check_view p i First) (check_view p i Second))
 
-two_seen : (p : Problem) (view : View) (i : ℕ) → pair (observation p.view1 p.view2 view i) 0 ≡ observation p.view1 p.view2 view i
-two_seen p First i = refl
-two_seen p Second i = refl
-
 -- what a view's test says of its check
-pub seen_check : (p : Problem) (i k : ℕ) (view : View) (part seen point : List Float) (r : Result Projected Refusal) (good : Bool) → view ≡ get_or views k First
-    → part ≡ observation p.view1 p.view2 view i → seen ≡ pair part 0 → point ≡ triple p.points i → r ≡ project p.rig view seen point → is_ok r ≡ good
+pub seen_check : (p : Problem) (i k : ℕ) (view : View) (seen point : List Float) (r : Result Projected Refusal) (good : Bool) → view ≡ get_or views k First
+    → seen ≡ observation p.view1 p.view2 view i → point ≡ triple p.points i → r ≡ project p.rig view seen point → is_ok r ≡ good
     → check_at p i k ≡ unless good (Projection view i)
-seen_check p i k view part seen point r good v a b c d e = rw (← e, ← v, d, b, a, c, two_seen p view i) refl
+seen_check p i k view seen point r good v a b c d = rw (← d, ← v, c, a, b) refl

@@ -11,7 +11,7 @@ use Rattle.refusal.specs.declared.View.TheVariants.{First, Second}
 use Rattle.refusal.specs.declared.Refusal.TheVariants.{Lengths, TooManyPoints, Damping, InverseDeviation, Baseline, Point, TooFewPoints, Observation, Projection}
 use Rattle.point_block.specs.Damping.{good_damping}
 use Rattle.linearization.specs.Views.{good_deviation}
-use Rattle.problem.specs.Problem.{Problem, count, triple, pair, observation, project}
+use Rattle.problem.specs.Problem.{Problem, count, triple, observation, project}
 
 -- a problem has 5 to 65,535 points
 abbrev pub min_points : ℕ
@@ -41,8 +41,8 @@ abbrev pub check_point : List Float → ℕ → Checked
 check_point points i = unless (all_finite (triple points i)) (Point i)
 
 -- row 8
-abbrev pub check_observation : View → List Float → ℕ → Checked
-check_observation name view i = unless (all_finite (pair view i)) (Observation name i)
+abbrev pub check_observation : Problem → View → ℕ → Checked
+check_observation p view i = unless (all_finite (observation p.view1 p.view2 view i)) (Observation view i)
 
 -- row 9 for one view of a point, then for both
 abbrev pub check_view : Problem → ℕ → View → Checked
@@ -55,8 +55,8 @@ check_projection p i = first_of (check_view p i First ∷ check_view p i Second 
 unfoldable pub check_seen : Problem → Checked
 check_seen p =
     first_of (
-    first (check_observation First p.view1) 0 (count p)
-    ∷ first (check_observation Second p.view2) 0 (count p)
+    first (check_observation p First) 0 (count p)
+    ∷ first (check_observation p Second) 0 (count p)
     ∷ first (check_projection p) 0 (count p)
     ∷ [])
 

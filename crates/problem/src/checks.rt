@@ -1,8 +1,194 @@
 // SPDX-FileCopyrightText: 2026 Pierre Moulon and OpenMVG Rust contributors
 // SPDX-License-Identifier: MIT OR Apache-2.0
 
-// The checks of a two-view problem over lent memory before any sum: kernel/two_view/optimizer.rs, residual.rs.
+// Rows 1 to 9 of a two-view problem over lent memory, before any sum: kernel/two_view/optimizer.rs,
+// residual.rs.
 
-mod rows;
+ghost use Rattle.std.specs.Prelude.{◌≡◌, ◌<◌, ◌*◌, eqb, Ok};
+ghost use Rattle.std.specs.Result.{result_and};
+ghost use Rattle.refusal.specs.First as First;
+ghost use Rattle.problem.specs.Problem as Problems;
+ghost use Rattle.problem.specs.Checks as Checks;
 
-pub use rows::{FittingProblem, MAXIMUM_POINTS, check};
+use crate::correspondences;
+use crate::correspondences::{FittingProblem, Problem, ProblemPoint};
+use linearization::views;
+use numerics::vectors;
+use point_block::point_damping::ValidDamping;
+use refusal::{Refusal, View};
+use std::marker::Model;
+
+const MINIMUM_POINTS: u32 = 5;
+
+// Row 2
+const MAXIMUM_POINTS: usize = 65535;
+
+/// A problem that rows 1 to 9 let through, row 1 without the room
+#[derive(Drop)]
+pub struct CheckedProblem<'a> {
+    fitting: FittingProblem<'a>,
+    damping: ValidDamping,
+}
+
+impl<'a> Model for CheckedProblem<'a> {
+    ghost use Rattle.std.specs.Prelude.{◌≡◌, Ok};
+    ghost use Rattle.problem.specs.Problem.{Problem, of};
+    ghost use Rattle.problem.specs.Checks.{check};
+
+    ghost Value = { Problem };
+
+    ghost view = { λ c. of c.fitting.problem.now };
+
+    ghost invariant = { λ c. (check (of c.fitting.problem.now) ≡ Ok tt) × (c.damping ≡ c.fitting.problem.now.damping) };
+}
+
+impl<'a> CheckedProblem<'a> {
+    /// Tests rows 1 to 9, row 1 without the room.
+    #[tactic(auto, unfolding(crate::specs::Checks::check))]
+    pub fn new(problem: &'a Problem<'a>) -> Result<CheckedProblem<'a>, Refusal>
+        ensures { result ≡ result_and (Checks.check (Problems.of problem.now)) (Ok (Problems.of problem.now)) }
+    {
+        let n = problem.count();
+        let fit = belongs(problem.points.len(), 3, n)
+            && belongs(problem.view1.len(), 2, n)
+            && belongs(problem.view2.len(), 2, n);
+        if !fit {
+            return Err(Refusal::Lengths);
+        }
+        if n > MAXIMUM_POINTS {
+            return Err(Refusal::TooManyPoints);
+        }
+        let fitting = FittingProblem { problem };
+        let damping = check_values(fitting)?;
+        Ok(CheckedProblem { fitting, damping })
+    }
+
+    /// The problem as one whose lengths fit
+    pub fn fitting(&self) -> FittingProblem<'a>
+        ensures problem { Problems.of result.problem.now ≡ self.now }
+        ensures checked { Checks.check self.now ≡ Ok tt }
+    {
+        self.fitting
+    }
+
+    /// The problem's damping
+    pub fn damping(&self) -> ValidDamping
+        ensures { result ≡ self.now.damping }
+    {
+        self.damping
+    }
+}
+
+// Whether a length is n times a number, by no product that could wrap
+#[tactic(auto, using(crate::proofs::Parts::multiple))]
+fn belongs(length: usize, each: usize, n: usize) -> bool
+    requires { 0 < each }
+    ensures { result ≡ eqb length (each * n) }
+{
+    length / each == n && length % each == 0
+}
+
+// Rows 3 to 9, with the damping that row 3 lets through
+#[tactic(auto, unfolding(crate::specs::Checks::check_values))]
+fn check_values(fitting: FittingProblem) -> Result<ValidDamping, Refusal>
+    ensures { result ≡ result_and (Checks.check_values (Problems.of fitting.entry.problem.now)) (Ok fitting.entry.problem.now.damping) }
+{
+    let damping = ValidDamping::new(fitting.problem.damping)?;
+    check_deviations(fitting)?;
+    if !good_baseline(fitting.problem.rig.pose.baseline) {
+        return Err(Refusal::Baseline);
+    }
+    check_points(fitting)?;
+    if fitting.count() < MINIMUM_POINTS {
+        return Err(Refusal::TooFewPoints);
+    }
+    check_seen(fitting)?;
+    Ok(damping)
+}
+
+// Row 4
+#[tactic(auto, using(refusal::proofs::Scans::leaves, refusal::proofs::Scans::goes_on, refusal::proofs::Scans::ends))]
+fn check_deviations(fitting: FittingProblem) -> Result<(), Refusal>
+    ensures { result ≡ First.first (Checks.check_deviation (Problems.of fitting.entry.problem.now).deviations) 0
+        (Problems.count (Problems.of fitting.entry.problem.now)) }
+{
+    for (i, x) in fitting.problem.inverse_deviations.iter().enumerate() {
+        if !views::good_deviation(*x) {
+            return Err(Refusal::InverseDeviation { index: i as u32 });
+        }
+    }
+    Ok(())
+}
+
+// Row 5
+#[tactic(auto, unfolding(crate::specs::Checks::good_baseline))]
+fn good_baseline(baseline: f64) -> bool
+    ensures { result ≡ Checks.good_baseline baseline }
+{
+    numerics::is_finite(baseline) && !(baseline <= numerics::EPSILON64)
+}
+
+// Row 6
+#[tactic(auto, using(refusal::proofs::Scans::leaves, refusal::proofs::Scans::goes_on, refusal::proofs::Scans::ends))]
+fn check_points(fitting: FittingProblem) -> Result<(), Refusal>
+    ensures { result ≡ First.first (Checks.check_point (Problems.of fitting.entry.problem.now).points) 0
+        (Problems.count (Problems.of fitting.entry.problem.now)) }
+{
+    for index in 0..fitting.count() {
+        let point = ProblemPoint { fitting, index };
+        if !vectors::all_finite(&point.coordinates()) {
+            return Err(Refusal::Point { index });
+        }
+    }
+    Ok(())
+}
+
+// Rows 8 and 9
+#[tactic(auto, unfolding(crate::specs::Checks::check_seen))]
+fn check_seen(fitting: FittingProblem) -> Result<(), Refusal>
+    ensures { result ≡ Checks.check_seen (Problems.of fitting.entry.problem.now) }
+{
+    check_view(fitting, View::First)?;
+    check_view(fitting, View::Second)?;
+    check_projections(fitting)
+}
+
+// Row 8 for one view
+#[tactic(auto, using(refusal::proofs::Scans::leaves, refusal::proofs::Scans::goes_on, refusal::proofs::Scans::ends))]
+fn check_view(fitting: FittingProblem, view: View) -> Result<(), Refusal>
+    ensures { result ≡ First.first (Checks.check_observation (Problems.of fitting.entry.problem.now) view) 0
+        (Problems.count (Problems.of fitting.entry.problem.now)) }
+{
+    for index in 0..fitting.count() {
+        let point = ProblemPoint { fitting, index };
+        if !vectors::all_finite(&point.seen(view)) {
+            return Err(Refusal::Observation { view, index });
+        }
+    }
+    Ok(())
+}
+
+// Row 9: both loops are left at the first view that does not project.
+#[tactic(auto, using(refusal::proofs::Scans::leaves, refusal::proofs::Scans::goes_on, refusal::proofs::Scans::ends))]
+fn check_projections(fitting: FittingProblem) -> Result<(), Refusal>
+    ensures { result ≡ First.first (Checks.check_projection (Problems.of fitting.entry.problem.now)) 0
+        (Problems.count (Problems.of fitting.entry.problem.now)) }
+{
+    let mut checked = Ok(());
+    'points: for index in 0..fitting.count() {
+        let point = ProblemPoint { fitting, index };
+        'views: for view in [View::First, View::Second] {
+            let projected = correspondences::project(
+                &fitting.problem.rig,
+                view,
+                point.seen(view),
+                point.coordinates(),
+            );
+            if projected.is_err() {
+                checked = Err(Refusal::Projection { view, index });
+                break 'points;
+            }
+        }
+    }
+    checked
+}

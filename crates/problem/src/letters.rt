@@ -5,10 +5,11 @@ ghost use Rattle.problem.specs.Letters as Letters;
 
 use linearization::LocalLinearization;
 use point_block::PointBlockFactor;
+use point_block::point_damping::ValidDamping;
 
 // How a point's block factors
 #[derive(Clone, Copy, Debug, PartialEq, Eq)]
-pub enum Grade {
+enum Grade {
     NotFactored,
     // at damping zero, with an rcond of at most 192ε
     Weak,
@@ -20,23 +21,23 @@ pub enum Grade {
 
 impl Grade {
     #[tactic(auto, unfolding(crate::specs::Letters::of))]
-    pub fn of(local: LocalLinearization, damping: f64) -> Self
+    fn of(local: LocalLinearization, damping: ValidDamping) -> Self
         ensures { result ≡ Letters.of local damping }
     {
-        match PointBlockFactor::new(local.point_hessian, damping) {
-            Ok(lone) if damping == 0.0 => {
-                if point_block::is_weak(lone.rcond) {
-                    Grade::Weak
-                } else {
-                    Grade::Good
-                }
-            }
-            Ok(_) => Grade::Factored,
-            Err(_) => Grade::NotFactored,
+        let Ok(factor) = PointBlockFactor::factor(local.point_hessian, damping.value()) else {
+            return Grade::NotFactored;
+        };
+        if !damping.is_zero() {
+            return Grade::Factored;
+        }
+        if point_block::is_weak(factor.reciprocal_condition_number(local.point_hessian)) {
+            Grade::Weak
+        } else {
+            Grade::Good
         }
     }
 
-    pub fn byte(self) -> u8
+    fn byte(self) -> u8
         ensures { result ≡ Letters.byte self }
     {
         match self {
@@ -49,7 +50,7 @@ impl Grade {
 }
 
 #[tactic(auto, unfolding(crate::specs::Letters::letter))]
-pub fn letter(local: LocalLinearization, damping: f64) -> u8
+pub fn letter(local: LocalLinearization, damping: ValidDamping) -> u8
     ensures { result ≡ Letters.letter local damping }
 {
     Grade::of(local, damping).byte()
