@@ -1,8 +1,9 @@
 -- `linearize_point` of schur.rs with `Loss::L2`, the block maker of document 01: both views or their refusal, then the block.
-use Rattle.std.specs.Prelude.{List, Float, Result, Ok, Err}
+use Rattle.std.specs.Prelude.{List, Float, Result, Ok}
 use Rattle.std.specs.Result.{result_and}
 use Rattle.numerics.specs.Binary64.{◌⊕◌, ◌⊗◌, zero}
 use Rattle.numerics.specs.Vectors.{tabulate, zeros}
+use Rattle.refusal.specs.Answer.{answer}
 use Rattle.refusal.specs.declared.Refusal.{Refusal}
 use Rattle.linearization.specs.declared.linearize.LocalLinearization.{LocalLinearization}
 use Rattle.linearization.specs.declared.terms.PointTerms.{PointTerms}
@@ -27,10 +28,9 @@ no_block = record {
   squared_residual = zero;
 }
 
--- the block that was made, or +0 everywhere beside a refusal
+-- the block that was made, or +0 everywhere beside a refusal: the values of the answer
 abbrev pub block_or_zeros : Result LocalLinearization Refusal → LocalLinearization
-block_or_zeros (Ok b) = b
-block_or_zeros (Err r) = no_block
+block_or_zeros r = (answer no_block r).values
 
 -- the pose's ten derivatives in view 1
 abbrev pub pose_rows : View1 → List Float

@@ -28,7 +28,7 @@ fn product(x: [f64; 4], y: [f64; 4]) -> f64
 
 // Filled row by row: number by number it took ten times as long, and so did the next.
 #[tactic(auto, using(numerics::proofs::Fill::array_none, numerics::proofs::Fill::row_of_five))]
-pub fn pose_hessian(a: [f64; 10], b: [f64; 10]) -> [f64; 25]
+pub(crate) fn pose_hessian(a: [f64; 10], b: [f64; 10]) -> [f64; 25]
     ensures { result ≡ Accumulate.pose_hessian a b }
 {
     let c0 = column(a, b, 0);
@@ -49,7 +49,7 @@ pub fn pose_hessian(a: [f64; 10], b: [f64; 10]) -> [f64; 25]
 }
 
 #[tactic(auto, using(numerics::proofs::Fill::array_none, numerics::proofs::Fill::row_of_three))]
-pub fn cross_hessian(a: [f64; 10], p: [f64; 6], b: [f64; 10], q: [f64; 6]) -> [f64; 15]
+pub(crate) fn cross_hessian(a: [f64; 10], p: [f64; 6], b: [f64; 10], q: [f64; 6]) -> [f64; 15]
     ensures { result ≡ Accumulate.cross_hessian a p b q }
 {
     let c0 = column(p, q, 0);
@@ -66,21 +66,21 @@ pub fn cross_hessian(a: [f64; 10], p: [f64; 6], b: [f64; 10], q: [f64; 6]) -> [f
 }
 
 #[tactic(auto, unfolding(crate::specs::Accumulate::point_hessian))]
-pub fn point_hessian(p: [f64; 6], q: [f64; 6]) -> [f64; 9]
+pub(crate) fn point_hessian(p: [f64; 6], q: [f64; 6]) -> [f64; 9]
     ensures { result ≡ Accumulate.point_hessian p q }
 {
     array::from_fn(|k| product(column(p, q, k / 3), column(p, q, k % 3)))
 }
 
 #[tactic(auto, unfolding(crate::specs::Accumulate::pose_gradient))]
-pub fn pose_gradient(a: [f64; 10], u: [f64; 2], b: [f64; 10], v: [f64; 2]) -> [f64; 5]
+pub(crate) fn pose_gradient(a: [f64; 10], u: [f64; 2], b: [f64; 10], v: [f64; 2]) -> [f64; 5]
     ensures { result ≡ Accumulate.pose_gradient a u b v }
 {
     array::from_fn(|i| product(column(a, b, i), column(u, v, 0)))
 }
 
 #[tactic(auto, unfolding(crate::specs::Accumulate::point_gradient))]
-pub fn point_gradient(p: [f64; 6], u: [f64; 2], q: [f64; 6], v: [f64; 2]) -> [f64; 3]
+pub(crate) fn point_gradient(p: [f64; 6], u: [f64; 2], q: [f64; 6], v: [f64; 2]) -> [f64; 3]
     ensures { result ≡ Accumulate.point_gradient p u q v }
 {
     array::from_fn(|i| product(column(p, q, i), column(u, v, 0)))

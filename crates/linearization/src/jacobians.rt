@@ -10,7 +10,7 @@ ghost use Rattle.linearization.specs.Jacobians as Jacobians;
 use std::array;
 
 // How the turned point moves with the pose: three rows of five
-pub fn pose_motion_jacobian(rotated: [f64; 3], basis: [f64; 6], baseline: f64) -> [f64; 15]
+pub(crate) fn pose_motion_jacobian(rotated: [f64; 3], basis: [f64; 6], baseline: f64) -> [f64; 15]
     ensures { result ≡ Jacobians.pose_motion_jacobian rotated basis baseline }
 {
     [
@@ -34,7 +34,7 @@ pub fn pose_motion_jacobian(rotated: [f64; 3], basis: [f64; 6], baseline: f64) -
 
 // Two rows of the Jacobian times five columns of the motion
 #[tactic(auto, unfolding(crate::specs::Jacobians::pose_jacobian))]
-pub fn pose_jacobian(j: [f64; 6], m: [f64; 15]) -> [f64; 10]
+pub(crate) fn pose_jacobian(j: [f64; 6], m: [f64; 15]) -> [f64; 10]
     ensures { result ≡ Jacobians.pose_jacobian j m }
 {
     array::from_fn(|k| entry(j, m, k / 5, k % 5))
@@ -42,7 +42,7 @@ pub fn pose_jacobian(j: [f64; 6], m: [f64; 15]) -> [f64; 10]
 
 // Two rows of the Jacobian times the rotation, scaled by the baseline
 #[tactic(auto, unfolding(crate::specs::Jacobians::point_jacobian))]
-pub fn point_jacobian(j: [f64; 6], r: [f64; 9], baseline: f64) -> [f64; 6]
+pub(crate) fn point_jacobian(j: [f64; 6], r: [f64; 9], baseline: f64) -> [f64; 6]
     ensures { result ≡ Jacobians.point_jacobian j r baseline }
 {
     array::from_fn(|k| entry(j, r, k / 3, k % 3) * baseline)

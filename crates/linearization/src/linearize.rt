@@ -3,6 +3,7 @@
 
 // The block maker: what one point adds to the system.
 ghost use Rattle.std.specs.Prelude.{◌≡◌};
+ghost use Rattle.refusal.specs.Answer.{answer};
 ghost use Rattle.linearization.specs.Linearize as Linearize;
 
 use crate::terms::PointTerms;
@@ -10,7 +11,7 @@ use crate::views::{Correspondence, LinearizedViews, Rig};
 use crate::{accumulate, loss, terms, views};
 use refusal::Refusal;
 
-// A point's block: 5 by 5, 5 by 3 and 3 by 3, row by row, with its gradients and its cost
+/// A point's block: 5 by 5, 5 by 3 and 3 by 3, row by row, with its gradients and its cost
 #[derive(Clone, Copy)]
 pub struct LocalLinearization {
     pub pose_hessian: [f64; 25],
@@ -22,13 +23,15 @@ pub struct LocalLinearization {
     pub squared_residual: f64,
 }
 
-// The block of a correspondence. Tests row 4, then row 9 with view 1 or 2.
+/// The block of a correspondence. Tests row 4, then row 9 with view 1 or 2.
 #[tactic(auto, unfolding(crate::specs::Linearize::linearize_point, crate::specs::Linearize::block_of, crate::specs::Views::linearize_views))]
 pub fn linearize_point(
     rig: Rig,
     correspondence: Correspondence,
 ) -> Result<LocalLinearization, Refusal>
-    ensures { result ≡ Linearize.linearize_point rig correspondence }
+    ensures result { result ≡ Linearize.linearize_point rig correspondence }
+    ensures answer { answer Linearize.no_block result
+        ≡ answer Linearize.no_block (Linearize.linearize_point rig correspondence) }
 {
     let views = views::linearize_views(rig, correspondence)?;
     Ok(block(views, correspondence.inverse_deviation))

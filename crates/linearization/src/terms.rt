@@ -1,8 +1,7 @@
 // SPDX-FileCopyrightText: 2026 Pierre Moulon and OpenMVG Rust contributors
 // SPDX-License-Identifier: MIT OR Apache-2.0
 
-// What the step of a point needs of its block: neither the pose's own terms nor the cost, so that
-// the second pass over the points makes no more than this.
+// What the step of a point needs of its block.
 ghost use Rattle.std.specs.Prelude.{◌≡◌};
 ghost use Rattle.linearization.specs.Linearize as Linearize;
 
@@ -10,6 +9,8 @@ use crate::linearize::LocalLinearization;
 use crate::views::{Correspondence, Rig, View1, View2};
 use crate::{accumulate, views};
 
+/// What the step of a point needs of its block: neither the pose's own terms nor the cost, so that
+/// the second pass over the points makes no more than this.
 #[derive(Clone, Copy)]
 pub struct PointTerms {
     pub cross_hessian: [f64; 15],

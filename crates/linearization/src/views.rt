@@ -15,8 +15,8 @@ use projection::{PinholeCamera, Projected};
 use refusal::{Refusal, View};
 use std::array;
 
-// How the second camera sits: the rotation by rows, the translation, two vectors that span the
-// translation's tangent plane, and the baseline
+/// How the second camera sits: the rotation by rows, the translation, two vectors that span the
+/// translation's tangent plane, and the baseline
 #[derive(Clone, Copy)]
 pub struct Pose {
     pub rotation: [f64; 9],
@@ -25,7 +25,7 @@ pub struct Pose {
     pub baseline: f64,
 }
 
-// The two cameras, and how the second one sits
+/// The two cameras, and how the second one sits
 #[derive(Clone, Copy)]
 pub struct Rig {
     pub camera1: PinholeCamera,
@@ -33,7 +33,7 @@ pub struct Rig {
     pub pose: Pose,
 }
 
-// A point, seen by both cameras, with its inverse standard deviation
+/// A point, seen by both cameras, with its inverse standard deviation
 #[derive(Clone, Copy)]
 pub struct Correspondence {
     pub point: [f64; 3],
@@ -42,7 +42,7 @@ pub struct Correspondence {
     pub inverse_deviation: f64,
 }
 
-// View 1, whose ten derivatives by the pose are all the same number
+/// View 1, whose ten derivatives by the pose are all the same number
 #[derive(Clone, Copy)]
 pub struct View1 {
     pub residual: [f64; 2],
@@ -50,6 +50,7 @@ pub struct View1 {
     pub point: [f64; 6],
 }
 
+/// View 2
 #[derive(Clone, Copy)]
 pub struct View2 {
     pub residual: [f64; 2],
@@ -57,7 +58,7 @@ pub struct View2 {
     pub point: [f64; 6],
 }
 
-// Both views, with their residuals before any weight
+/// Both views, with their residuals before any weight
 #[derive(Clone, Copy)]
 pub struct LinearizedViews {
     pub first: View1,
@@ -68,7 +69,10 @@ pub struct LinearizedViews {
 
 // Tests row 4, then row 9 with view 1 or 2, by `else` and not by `map_err`, which is slower here.
 #[tactic(auto, using(projection::proofs::Laws::projected_is), unfolding(crate::specs::Views::linearize_views, crate::specs::Views::check_views, crate::specs::Views::views_of))]
-pub fn linearize_views(rig: Rig, correspondence: Correspondence) -> Result<LinearizedViews, Refusal>
+pub(crate) fn linearize_views(
+    rig: Rig,
+    correspondence: Correspondence,
+) -> Result<LinearizedViews, Refusal>
     ensures { result ≡ Views.linearize_views rig correspondence }
 {
     let Rig {
@@ -121,7 +125,7 @@ pub(crate) fn views_of(rig: &Rig, correspondence: Correspondence) -> LinearizedV
     )
 }
 
-// Row 4 lets an inverse deviation through that is finite and above 0.
+/// Row 4 lets an inverse deviation through that is finite and above 0.
 #[tactic(auto, unfolding(crate::specs::Views::good_deviation))]
 pub fn good_deviation(x: f64) -> bool
     ensures { result ≡ Views.good_deviation x }

@@ -46,7 +46,7 @@ same_sign true false u h = h
 same_sign false true u h = h
 same_sign false false u h = false≢true u
 
-pub eq_unlike : (f : Format) (x y : Float) → T (fits f x) → negative x ≡ not (negative y) → T (eq x y) → x ≡ fin (negative x) 0 (pos 0)
+eq_unlike : (f : Format) (x y : Float) → T (fits f x) → negative x ≡ not (negative y) → T (eq x y) → x ≡ fin (negative x) 0 (pos 0)
 unfolding eq negative
 eq_unlike f nan y p a h = absurd h
 eq_unlike f (inf s) nan p a h = absurd h

@@ -36,7 +36,7 @@ fill_next l h f k v e g i =
     ∙ set_at (tabulate k f) (l ! k) (drop (suc k) l) (f k) k (length_tabulate k f)
     ∙ sym (rw (tabulate_maps (k + 1) f, map-range_with_len_more f 0 k k (zero-add k), ← tabulate_maps k f, add-one k) (append_snoc (tabulate k f) (f k) (drop (suc k) l)))
 
-pub fill_all : (l h : List Float) (f : ℕ → Float) (k n : ℕ) → h ≡ filled l f k → k ≡ n → length l ≡ n → h ≡ tabulate n f
+fill_all : (l h : List Float) (f : ℕ → Float) (k n : ℕ) → h ≡ filled l f k → k ≡ n → length l ≡ n → h ≡ tabulate n f
 fill_all l h f k n e g i =
     e
     ∙ ap (λ (m : ℕ). filled l f m) g
@@ -57,7 +57,7 @@ pub array_none : (n : ℕ) (f : ℕ → Float) → cleared n ≡ filled_of n f 0
 unfolding filled_of
 array_none n f = refl
 
-pub array_next : (n : ℕ) (h : List Float) (f : ℕ → Float) (k : ℕ) (v : Float) → h ≡ filled_of n f k → v ≡ f k → k < n → set h k v ≡ filled_of n f (k + 1)
+array_next : (n : ℕ) (h : List Float) (f : ℕ → Float) (k : ℕ) (v : Float) → h ≡ filled_of n f k → v ≡ f k → k < n → set h k v ≡ filled_of n f (k + 1)
 unfolding filled_of
 array_next n h f k v e g i = fill_next (cleared n) h f k v e g (subst (λ (m : ℕ). k < m) (sym (length_tabulate n (λ i. Binary64.zero))) i)
 

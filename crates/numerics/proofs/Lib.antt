@@ -1,9 +1,8 @@
--- Laws of the definitions, which other crates cite.
--- Laws of lists of numbers.
--- Laws of the larger and the smaller of two values, which other crates cite.
+-- Laws of values, of lists of numbers and of the larger and the smaller of two values. Those in `pub`
+-- modules other crates cite.
 pub mod Values
 pub mod Specials
-pub mod Differences
+mod Differences
 pub mod Order
 pub mod Monotone
 pub mod Finite

@@ -1,4 +1,5 @@
--- Binary64 of IEEE 754: short names for its operations, each of which rounds once, to nearest, ties to even, and the constants of the Rust.
+-- Binary64 of IEEE 754: short names for its operations, each of which rounds once, to nearest,
+-- ties to even, and the constants of the Rust.
 use Rattle.std.specs.Prelude.{Float}
 use Rattle.std.specs.Float.{binary64}
 use Rattle.std.specs.Float.Ieee.{add, sub, mul, div, neg, of_bits}

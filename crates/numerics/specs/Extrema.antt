@@ -1,5 +1,5 @@
--- `f64::max` and `f64::min`: a NaN is passed over when the other is a number. Of unlike zeros `max`
--- gives +0 and `min` gives −0.
+-- `f64::max` and `f64::min`: a NaN is passed over when the other is a number. Of unlike zeros
+-- `max` gives +0 and `min` gives −0.
 use Rattle.std.specs.Prelude.{◌≡◌, Bool, not, ◌&&◌, ◌||◌, cond, List, fold, T, Float}
 use Rattle.std.specs.Float.Ieee.{is_nan, lt, eq}
 use Rattle.numerics.specs.Binary64.{zero, neg_zero}
@@ -15,8 +15,8 @@ min x y = cond (is_nan y || lt x y || (eq x y && negative x)) x y
 
 -- What the standard says of a result r that is one of x and y, where `ahead x y` says that x lies
 -- strictly ahead of y. A NaN is passed over: the other operand comes back, and of two NaNs either.
--- Equal values of one sign are one value, which comes back. Equal values of unlike signs are the two
--- zeros, of which one is named.
+-- Equal values of one sign are one value, which comes back. Equal values of unlike signs are the
+-- two zeros, of which one is named.
 pub record Picked (ahead : Float → Float → Bool) (of_zeros x y r : Float) : Type 0 where
   pub first_nan : T (is_nan x) → r ≡ y
   pub second_nan : T (is_nan y) → r ≡ x

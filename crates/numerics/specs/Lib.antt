@@ -1,5 +1,5 @@
--- What the number helpers are: module 1 of document 01, "Numbers as the Rust means them".
--- `max` and `min` of module 1 of document 01, "Numbers as the Rust means them".
+-- What the methods of `f64` that the Rust calls give for every binary64, and sums and products of
+-- lists of them.
 pub mod Binary64
 pub mod Parts
 pub mod Vectors

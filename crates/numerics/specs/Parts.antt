@@ -1,4 +1,5 @@
--- The parts of a value: its sign, its absolute value, whether it is finite, and its magnitude as a whole number.
+-- The parts of a value: its sign, its absolute value, whether it is finite, and its magnitude as a
+-- whole number.
 use Rattle.std.specs.Prelude.{ℕ, ◌*◌, ◌/◌, ◌^◌, Bool, true, false, not, ◌&&◌, Float}
 use Rattle.std.specs.Float.{nan, inf, fin, binary64}
 use Rattle.std.specs.Float.Ieee.{low, up, down, lt}
@@ -31,7 +32,8 @@ abs nan = nan
 abs (inf s) = inf false
 abs (fin s m e) = fin false m e
 
--- how many times the smallest positive value, 2 ^ -1074, a finite binary64 is without its sign: a whole number. It says nothing of a NaN or an infinity.
+-- how many times the smallest positive value, 2 ^ -1074, a finite binary64 is without its sign: a
+-- whole number. It says nothing of a NaN or an infinity.
 unfoldable pub magnitude : Float → ℕ
 magnitude nan = 0
 magnitude (inf s) = 0

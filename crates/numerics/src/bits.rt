@@ -3,7 +3,7 @@ ghost use Rattle.std.specs.Prelude.{◌≡◌};
 ghost use Rattle.std.specs.Float.Ieee as Ieee;
 ghost use Rattle.std.specs.Float.{binary64};
 
-// The pattern of x. Of a NaN it is always 7FF8000000000000.
+/// The pattern of x. Of a NaN it is always 7FF8000000000000.
 #[tactic(auto, using(crate::proofs::Specials::nan_of_is_nan, crate::proofs::Specials::nan_pattern))]
 pub fn to_bits(x: f64) -> u64
     ensures { result ≡ Ieee.to_bits binary64 x }
@@ -14,7 +14,7 @@ pub fn to_bits(x: f64) -> u64
     f64::to_bits(x)
 }
 
-// The value of a pattern. Every pattern of a NaN gives the NaN.
+/// The value of a pattern. Every pattern of a NaN gives the NaN.
 #[tactic(auto, using(crate::proofs::Specials::nan_of_pattern, crate::proofs::Specials::nan_of_bits, std::proofs::lemmas::Float::not_nan_f64_bits))]
 pub fn from_bits(b: u64) -> f64
     ensures { result ≡ Ieee.of_bits binary64 b }

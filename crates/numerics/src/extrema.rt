@@ -1,4 +1,4 @@
-// `f64::max` and `f64::min`, with document 01's rule for unlike zeros.
+//! `f64::max` and `f64::min`, with a rule for unlike zeros, and the largest of a list.
 
 ghost use Rattle.std.specs.Prelude.{◌≡◌};
 ghost use Rattle.numerics.specs.Extrema as Extrema;
@@ -29,15 +29,15 @@ pub fn min(x: f64, y: f64) -> f64
     }
 }
 
-// `max` by one comparison, for a `low` that is a number with the sign clear: a NaN in x is passed
-// over, and of unlike zeros it is +0.
+/// `max` by one comparison, for a `low` that is a number with the sign clear: a NaN in x is passed
+/// over, and of unlike zeros it is +0.
 pub fn larger(low: f64, x: f64) -> f64
     ensures { Extrema.Larger low x result }
 {
     if low < x { x } else { low }
 }
 
-// The largest of some numbers and +0. A NaN is passed over.
+/// The largest of some numbers and +0. A NaN is passed over.
 pub fn largest<const N: usize>(xs: [f64; N]) -> f64
     ensures { result ≡ Extrema.largest xs.entry }
 {

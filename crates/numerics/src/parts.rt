@@ -3,16 +3,17 @@ ghost use Rattle.std.specs.Prelude.{◌≡◌};
 ghost use Rattle.numerics.specs.Binary64 as Binary64;
 ghost use Rattle.numerics.specs.Parts as Parts;
 
-// `f64::abs`. The difference from 0 gives +0 for either zero, where a change of sign would turn +0
-// into −0. The library's own takes two comparisons.
+/// `f64::abs`: the sign is cleared, of a zero too.
 #[tactic(auto, using(crate::proofs::Differences::abs_above, crate::proofs::Differences::abs_rest))]
 pub fn abs(x: f64) -> f64
     ensures { result ≡ Parts.abs x }
 {
+    // The difference from 0 gives +0 for either zero, where a change of sign would turn +0 into
+    // −0. The library's own takes two comparisons.
     if 0.0 < x { x } else { 0.0 - x }
 }
 
-// `f64::is_finite`
+/// `f64::is_finite`.
 #[tactic(auto, using(crate::proofs::Differences::library_is_finite))]
 pub fn is_finite(x: f64) -> bool
     ensures { result ≡ Parts.is_finite x }
@@ -20,13 +21,14 @@ pub fn is_finite(x: f64) -> bool
     x.is_finite()
 }
 
+/// Whether x is finite and above 0.
 pub fn positive_finite(x: f64) -> bool
     ensures { result ≡ Parts.positive_finite x }
 {
     is_finite(x) & (0.0 < x)
 }
 
-// `f64::recip`
+/// `f64::recip`: 1 divided by x.
 pub fn recip(x: f64) -> f64
     ensures { result ≡ Binary64.recip x }
 {

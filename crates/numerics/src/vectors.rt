@@ -1,11 +1,11 @@
-// What is asked of a list of numbers: an entry, whether all are finite, and the sum of the products
-// with another's.
+//! What is asked of a list of numbers: an entry, whether all are finite, and the sum of the
+//! products with another's.
 
 ghost use Rattle.std.specs.Prelude.{◌≡◌};
 ghost use Rattle.numerics.specs.Vectors as Vectors;
 ghost use Rattle.numerics.specs.Vectors.{◌!◌};
 
-// The entry at i; beyond the end a NaN, as in the definitions
+/// The entry at i, and beyond the end a NaN.
 #[tactic(auto, using(crate::proofs::Specials::nan_of_pattern))]
 pub fn entry(values: &[f64], i: usize) -> f64
     ensures { result ≡ values.now ! i }
@@ -13,18 +13,19 @@ pub fn entry(values: &[f64], i: usize) -> f64
     values.get(i).copied().unwrap_or(f64::NAN)
 }
 
-// Whether every entry is finite
+/// Whether every entry is finite.
 pub fn all_finite(values: &[f64]) -> bool
     ensures { result ≡ Vectors.all_finite values.now }
 {
     values.iter().all(|x| crate::is_finite(*x))
 }
 
-// The sum of the products, from −0: in a loop, as by `fold` the proof did not close
+/// The sum of the products of the entries, one by one from −0.
 #[tactic(auto, using(crate::proofs::Products::dot_next))]
 pub fn dot<const N: usize>(x: [f64; N], y: [f64; N]) -> f64
     ensures { result ≡ Vectors.dot N x.entry y.entry }
 {
+    // in a loop, as by `fold` the proof did not close
     let mut sum = -0.0;
     for i in 0..N {
         sum += x[i] * y[i];

@@ -5,6 +5,7 @@ use Rattle.std.specs.Result.{result_and}
 use borrow.Author.Tests.{eqb-true, ne_eqb}
 use lib.Dec.{eqb}
 use lib.Ieee.{Float}
+use Rattle.refusal.specs.Answer.{answer}
 use Rattle.refusal.specs.First.{Checked, unless}
 use Rattle.refusal.specs.declared.Refusal.{Refusal}
 use Rattle.refusal.specs.declared.Refusal.TheVariants.{Lengths, NotFactored}
@@ -17,7 +18,7 @@ use Rattle.problem.proofs.Passed.{passed}
 use Rattle.optimizer.specs.Assembly.{reduced_system}
 use Rattle.optimizer.specs.PoseStep.{pose_step}
 use Rattle.optimizer.specs.PointSteps.{steps_to, sums_to}
-use Rattle.optimizer.specs.Results.{finished}
+use Rattle.optimizer.specs.Results.{no_result, finished}
 use Rattle.optimizer.specs.Step.{stepped, solved_step, check, step, written, Done}
 use Rattle.optimizer.specs.declared.point_steps.Sums.{Sums}
 use Rattle.optimizer.specs.declared.step_result.StepResult.{StepResult}
@@ -70,7 +71,7 @@ let_through p q h = by (Checks.check p) h
 module _ (p : Problem) (room : List Float) where
   refuses : (e : Refusal) → check p (length room) ≡ Err e → Done p room (Err e) room
   unfolding step
-  refuses e h = record { result = rw h refl; room_after = refl; none_refused = λ y. absurd (cc) }
+  refuses e h = record { result = rw h refl; answered = rw h refl; room_after = refl; none_refused = λ y. absurd (cc) }
 
   pub wrong_room : (length room ≡ length p.points → ⊥) → Done p room (Err Lengths) room
   wrong_room t = refuses Lengths (lengths_differ p (length room) t)
@@ -94,6 +95,7 @@ module _ (p : Problem) (room : List Float) where
       unfolding step
       done r after e f = record {
         result = e ∙ rw (lengths_agree p (length room) t, ok) refl;
+        answered = ap (answer no_result) (e ∙ rw (lengths_agree p (length room) t, ok) refl);
         room_after = f;
         none_refused = λ y. none_refused p ok;
       }

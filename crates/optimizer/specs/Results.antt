@@ -2,7 +2,8 @@
 use Rattle.std.specs.Prelude.{ℕ, List, pos, Float}
 use Rattle.std.specs.Float.{binary64}
 use Rattle.std.specs.Float.Ieee.{of_int}
-use Rattle.numerics.specs.Binary64.{◌⊘◌}
+use Rattle.numerics.specs.Binary64.{◌⊘◌, zero}
+use Rattle.numerics.specs.Vectors.{zeros}
 use Rattle.root.specs.Root.{sqrt}
 use Rattle.schur.specs.Model.{gradient_inf_norm, reduction_of}
 use Rattle.schur.specs.declared.reduced_system.ReducedSystem.{ReducedSystem}
@@ -10,6 +11,20 @@ use Rattle.optimizer.specs.declared.step_result.StepResult.{StepResult}
 
 abbrev pub rms : Float → ℕ → Float
 rms squares n = sqrt (squares ⊘ of_int binary64 (pos n))
+
+-- +0 everywhere: what stands beside a refusal
+abbrev pub no_result : StepResult
+no_result = record {
+  pose_step = zeros 5;
+  cost = zero;
+  squared_residual = zero;
+  gradient_norm = zero;
+  weak_point_count = 0;
+  minimum_point_rcond = zero;
+  point_step_rms = zero;
+  point_damping_norm = zero;
+  predicted_reduction = zero;
+}
 
 -- the result, from the system, the limited step of the pose, and the squared lengths and damping norms of n point steps, summed
 unfoldable pub finished : ReducedSystem → List Float → Float → ℕ → Float → Float → StepResult

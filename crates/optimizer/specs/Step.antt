@@ -1,6 +1,7 @@
 -- `refine_impl` of optimizer.rs from `reduced_system` to `predicted_reduction`, once: document 01, "One whole step".
 use Rattle.std.specs.Prelude.{ℕ, suc, ◌*◌, ◌<◌, ◌≡◌, true, cond, List, eqb, length, Float, Result, Ok, Err}
 use Rattle.std.specs.Result.{result_and}
+use Rattle.refusal.specs.Answer.{answer}
 use Rattle.refusal.specs.First.{Checked, unless}
 use Rattle.refusal.specs.Refused.{map_ok}
 use Rattle.refusal.specs.declared.Refusal.{Refusal}
@@ -14,7 +15,7 @@ use Rattle.schur.specs.Model.{is_valid, finish_damping, predicted_reduction, red
 use Rattle.optimizer.specs.Assembly.{block_at, system_to, reduced_system}
 use Rattle.optimizer.specs.PoseStep.{pose_step}
 use Rattle.optimizer.specs.PointSteps.{answer_at, step_at, steps_to, sums_to}
-use Rattle.optimizer.specs.Results.{finished}
+use Rattle.optimizer.specs.Results.{no_result, finished}
 use Rattle.optimizer.specs.declared.step_result.StepResult.{StepResult}
 
 -- the solution for the pose
@@ -56,5 +57,6 @@ pub record NoneRefused (p : Problem) : Type 0 where
 -- what a call promises: its answer, the room, and, where rows 1 to 9 let the problem through, that nothing within it is refused but by rows 10 and 11
 pub record Done (p : Problem) (room : List Float) (r : Result StepResult Refusal) (after : List Float) : Type 0 where
   pub result : r ≡ step p (length room)
+  pub answered : answer no_result r ≡ answer no_result (step p (length room))
   pub room_after : after ≡ written p r room
   pub none_refused : check p (length room) ≡ Ok tt → NoneRefused p

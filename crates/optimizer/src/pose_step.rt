@@ -13,7 +13,7 @@ use numerics::{extrema, vectors};
 // The most that a step turns or moves the second camera
 const MAX_LENGTH: f64 = 0.5;
 
-// `limit_pose_step` at 0.5: where both lengths are NaN the vector passes through.
+/// `limit_pose_step` at 0.5: where both lengths are NaN the vector passes through.
 #[tactic(auto, unfolding(crate::specs::PoseStep::limit_pose_step))]
 pub fn limit_pose_step(x: [f64; 5]) -> [f64; 5]
     ensures { result ≡ PoseStep.limit_pose_step x }
@@ -46,7 +46,7 @@ fn length<const N: usize>(v: [f64; N]) -> f64
 
 // The limited step of a solution
 #[tactic(auto, unfolding(crate::specs::PoseStep::pose_step))]
-pub fn pose_step(x: [f64; 5]) -> [f64; 5]
+pub(crate) fn pose_step(x: [f64; 5]) -> [f64; 5]
     ensures { result ≡ PoseStep.pose_step x }
 {
     limit_pose_step(x.map(|v| -v))

@@ -11,6 +11,7 @@ use crate::point_steps::Sums;
 use problem::checks::CheckedProblem;
 use schur::reduced_system::ReducedSystem;
 
+/// The limited step of the pose, and the figures of the system and of the point steps
 #[derive(Clone, Copy)]
 pub struct StepResult {
     pub pose_step: [f64; 5],

@@ -1,12 +1,13 @@
 -- The factor of a block at a damping, which is the Rust's `PointBlockFactor::new`, and the lone factor of document 01, which tests row 3, then row 10, and has its rcond beside it.
 use Rattle.std.specs.Prelude.{cond, List, Float, Result, Ok, Err}
+use Rattle.numerics.specs.Binary64.{zero}
 use Rattle.refusal.specs.declared.Refusal.{Refusal}
 use Rattle.refusal.specs.declared.Refusal.TheVariants.{Damping}
 use Rattle.point_block.specs.Damping.{good_damping, floored, added_diagonal, damped_matrix}
 use Rattle.point_block.specs.declared.PointBlockFactor.{PointBlockFactor}
 use Rattle.point_block.specs.declared.LoneFactor.{LoneFactor}
 use Rattle.point_block.specs.Cholesky.{inverse_by}
-use Rattle.point_block.specs.Factor.{factor_damped}
+use Rattle.point_block.specs.Factor.{no_factor, factor_damped}
 use Rattle.point_block.specs.Condition.{reciprocal_condition_number}
 
 -- the factor of the damped matrix; it depends on the matrix and the damping alone
@@ -18,6 +19,10 @@ abbrev pub inverse_at : List Float → Float → List Float
 inverse_at m damping =
     let damped = added_diagonal m damping (floored m) in
     inverse_by damped (floored damped)
+
+-- +0 everywhere: what stands beside a refusal
+abbrev pub no_lone_factor : LoneFactor
+no_lone_factor = record { factor = no_factor; rcond = zero }
 
 -- the rcond is that of the matrix as handed in, undamped
 unfoldable pub lone_factor : List Float → Float → Result LoneFactor Refusal

@@ -5,10 +5,11 @@
 // nine numbers, row by row; `cholesky` has the arithmetic of the factor, `point_damping` the damping.
 #![tactic(auto)]
 
-pub mod cholesky;
+mod cholesky;
 pub mod point_damping;
 
 ghost use Rattle.std.specs.Prelude.{◌≡◌};
+ghost use Rattle.refusal.specs.Answer.{answer};
 ghost use Rattle.point_block.specs.Condition as Condition;
 ghost use Rattle.point_block.specs.Factor as Factor;
 ghost use Rattle.point_block.specs.Lone as Lone;
@@ -34,7 +35,9 @@ impl PointBlockFactor {
     // The lone factor: tests row 3, then row 10.
     #[tactic(auto, unfolding(crate::specs::Lone::lone_factor))]
     pub fn new(matrix: [f64; 9], damping: f64) -> Result<LoneFactor, Refusal>
-        ensures { result ≡ Lone.lone_factor matrix damping }
+        ensures result { result ≡ Lone.lone_factor matrix damping }
+        ensures answer { answer Lone.no_lone_factor result
+            ≡ answer Lone.no_lone_factor (Lone.lone_factor matrix damping) }
     {
         ValidDamping::new(damping)?;
         let factor = Self::factor(matrix, damping)?;
@@ -45,7 +48,9 @@ impl PointBlockFactor {
     // The factor of the matrix at a damping: the Rust's `new`. Row 3 is not tested here.
     #[tactic(auto, unfolding(crate::specs::Lone::factor))]
     pub fn factor(matrix: [f64; 9], damping: f64) -> Result<Self, Refusal>
-        ensures { result ≡ Lone.factor matrix damping }
+        ensures result { result ≡ Lone.factor matrix damping }
+        ensures answer { answer Factor.no_factor result
+            ≡ answer Factor.no_factor (Lone.factor matrix damping) }
     {
         Self::factor_damped(point_damping::damped_matrix(matrix, damping)?)
     }
@@ -53,7 +58,9 @@ impl PointBlockFactor {
     // The factor of a matrix that is damped already.
     #[tactic(auto, unfolding(crate::specs::Factor::factor_damped))]
     pub fn factor_damped(damped: [f64; 9]) -> Result<Self, Refusal>
-        ensures { result ≡ Factor.factor_damped damped }
+        ensures result { result ≡ Factor.factor_damped damped }
+        ensures answer { answer Factor.no_factor result
+            ≡ answer Factor.no_factor (Factor.factor_damped damped) }
     {
         let diagonal = point_damping::floored_diagonal(damped);
         let inverse = cholesky::invert(damped, diagonal).ok_or(Refusal::NotFactored)?;

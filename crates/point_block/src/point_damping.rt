@@ -5,13 +5,15 @@
 // row.
 
 ghost use Rattle.std.specs.Prelude.{◌≡◌, T};
+ghost use Rattle.numerics.specs.Vectors.{zeros};
+ghost use Rattle.refusal.specs.Answer.{answer};
 ghost use Rattle.point_block.specs.Damping as Damping;
 
 use numerics::extrema;
 use refusal::Refusal;
 use std::marker::Model;
 
-// A damping that row 3 lets through: finite and not below 0
+/// A damping that row 3 lets through: finite and not below 0
 #[derive(Clone, Copy)]
 pub struct ValidDamping {
     value: f64,
@@ -31,7 +33,7 @@ impl Model for ValidDamping {
 }
 
 impl ValidDamping {
-    // Row 3
+    /// Tests row 3.
     pub fn new(damping: f64) -> Result<Self, Refusal>
         ensures { result ≡ Damping.valid_damping damping }
     {
@@ -42,6 +44,7 @@ impl ValidDamping {
         }
     }
 
+    /// The number itself
     pub fn value(self) -> f64
         ensures value { result ≡ self }
         ensures valid { T (Damping.good_damping result) }
@@ -49,7 +52,7 @@ impl ValidDamping {
         self.value
     }
 
-    // Either zero
+    /// Whether it is a zero of either sign
     pub fn is_zero(self) -> bool
         ensures { result ≡ Damping.is_zero self }
     {
@@ -64,18 +67,22 @@ fn good_damping(damping: f64) -> bool
     numerics::is_finite(damping) & !(damping < 0.0)
 }
 
+/// The matrix with damping times the floored diagonal added along its diagonal. Row 10 where the
+/// largest diagonal entry is not positive and finite.
 #[tactic(auto, unfolding(crate::specs::Damping::damped_matrix))]
 pub fn damped_matrix(matrix: [f64; 9], damping: f64) -> Result<[f64; 9], Refusal>
-    ensures { result ≡ Damping.damped_matrix matrix damping }
+    ensures result { result ≡ Damping.damped_matrix matrix damping }
+    ensures answer { answer (zeros 9) result ≡ answer (zeros 9) (Damping.damped_matrix matrix damping) }
 {
     let diagonal = damping_diagonal(matrix)?;
     Ok(added_diagonal(matrix, damping, diagonal))
 }
 
-// What damping is multiplied with. Row 10 where the largest diagonal entry is not positive and finite.
+/// What damping is multiplied with. Row 10 where the largest diagonal entry is not positive and finite.
 #[tactic(auto, unfolding(crate::specs::Damping::damping_diagonal))]
 pub fn damping_diagonal(matrix: [f64; 9]) -> Result<[f64; 3], Refusal>
-    ensures { result ≡ Damping.damping_diagonal matrix }
+    ensures result { result ≡ Damping.damping_diagonal matrix }
+    ensures answer { answer (zeros 3) result ≡ answer (zeros 3) (Damping.damping_diagonal matrix) }
 {
     let scale = largest_diagonal(matrix);
     if !numerics::positive_finite(scale) {
@@ -84,7 +91,7 @@ pub fn damping_diagonal(matrix: [f64; 9]) -> Result<[f64; 3], Refusal>
     Ok(floored(matrix, scale))
 }
 
-// The diagonal, but no entry below 64ε of the largest.
+/// The diagonal, but no entry below 64ε of the largest.
 pub fn floored_diagonal(m: [f64; 9]) -> [f64; 3]
     ensures { result ≡ Damping.floored m }
 {

@@ -49,6 +49,8 @@ impl Grade {
     }
 }
 
+/// The letter of a block at a damping: `n` does not factor; at damping zero `w` is weak and `g` good; at
+/// other dampings `f` factors.
 #[tactic(auto, unfolding(crate::specs::Letters::letter))]
 pub fn letter(local: LocalLinearization, damping: ValidDamping) -> u8
     ensures { result ≡ Letters.letter local damping }

@@ -1,3 +1,3 @@
--- Laws of the projection, which other crates cite.
+-- Laws of the projection, which other crates cite (`Laws`), and the theorem on a pose that is not finite.
 pub mod Laws
-pub mod Pose
+mod Pose

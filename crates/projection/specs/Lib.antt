@@ -1,3 +1,3 @@
--- Module 2 of document 01: the pixel half of projection.rs.
+-- The pixel half of projection.rs, and a point in the second camera's frame.
 pub mod Projection
 pub mod Pose

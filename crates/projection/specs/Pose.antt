@@ -19,8 +19,8 @@ rotate rotation point =
 unfoldable pub camera_point : List Float → List Float → List Float
 camera_point rotated translation = rotated ! 0 ⊕ translation ! 0 ∷ rotated ! 1 ⊕ translation ! 1 ∷ rotated ! 2 ⊕ translation ! 2 ∷ []
 
--- What a pose with an entry that is not finite makes of the second view: no point is projected there,
--- whatever the camera and the observation.
+-- What a pose with an entry that is not finite makes of the second view: no point is projected
+-- there, whatever the camera and the observation.
 pub record NonFinitePoseIsNotProjectable : Type 0 where
   pub rotation : (rotation translation : List Float) (i : ℕ) → i < 9 → is_finite (rotation ! i) ≡ false
       → (camera : PinholeCamera) (observation point : List Float)

@@ -10,7 +10,8 @@ use Rattle.refusal.specs.declared.Refusal.TheVariants.{LoneProjection}
 use Rattle.projection.specs.declared.PinholeCamera.{PinholeCamera}
 use Rattle.projection.specs.declared.Projected.{Projected}
 
--- every coordinate is finite, and the depth is not at or below 64ε times the largest absolute coordinate
+-- every coordinate is finite, and the depth is not at or below 64ε times the largest absolute
+-- coordinate
 unfoldable pub in_front : List Float → Bool
 in_front point =
     is_finite (point ! 0) && is_finite (point ! 1) && is_finite (point ! 2)

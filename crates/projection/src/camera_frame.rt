@@ -9,8 +9,8 @@ ghost use Rattle.projection.specs.Pose as Pose;
 
 use std::array;
 
-/// A rotation or a translation with an entry that is not finite makes the second view one in which no
-/// point is projectable, whatever the camera and the observation. A theorem: nothing runs.
+/// A rotation or a translation with an entry that is not finite makes the second view one in which
+/// no point is projectable, whatever the camera and the observation. A theorem: nothing runs.
 pub fn non_finite_pose_is_not_projectable()
     ensures { Pose.NonFinitePoseIsNotProjectable }
 {}

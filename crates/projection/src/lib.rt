@@ -39,7 +39,8 @@ pub struct Projected {
 
 /// The projection of a point in the camera's frame, less what was observed, and its Jacobian.
 /// Refused with row 9 where a coordinate is not finite, where the depth is not above 64ε of the
-/// largest absolute coordinate, and where an entry of the residual or of the Jacobian is not finite.
+/// largest absolute coordinate, and where an entry of the residual or of the Jacobian is not
+/// finite.
 #[tactic(auto, unfolding(crate::specs::Projection::pixel_projection))]
 pub fn pixel_projection(
     camera: PinholeCamera,
@@ -59,7 +60,8 @@ pub fn pixel_projection(
     Err(Refusal::LoneProjection)
 }
 
-// Whether the coordinates are finite and the depth is above 64ε of the largest absolute value of them.
+// Whether the coordinates are finite and the depth is above 64ε of the largest absolute value of
+// them.
 #[tactic(auto, unfolding(crate::specs::Projection::in_front))]
 fn in_front(point: [f64; 3]) -> bool
     ensures { result ≡ Projection.in_front point }

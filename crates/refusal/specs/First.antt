@@ -1,4 +1,5 @@
--- The first refusal of several checks: a row is given if its condition holds and no earlier one does, and the lowest index comes first.
+-- The first refusal of several checks: a row is given if its condition holds and no earlier one
+-- does, and the lowest index comes first.
 use Rattle.std.specs.Prelude.{ℕ, zero, suc, Bool, cond, List, [], ◌∷◌, Result, Ok, Err}
 use Rattle.std.specs.Result.{result_and}
 use Rattle.refusal.specs.declared.Refusal.{Refusal}

@@ -1,4 +1,5 @@
--- The refusals by their numbers: a row, a view and an index, the last two 0 where they have no sense.
+-- The refusals by their numbers: a row, a view and an index, the last two 0 where they have no
+-- sense.
 use Rattle.std.specs.Prelude.{ℕ, Result, Ok, Err}
 use Rattle.refusal.specs.Rows as Rows
 use Rattle.refusal.specs.declared.Row.{Row}

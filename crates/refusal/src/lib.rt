@@ -1,5 +1,6 @@
-// What a call answers where it gives no result: why, with the view and the index where these have a sense; and
-// the numbers of that in document 01's list.
+//! What a call answers where it gives no result: a `Refusal` says why, with the view and the index
+//! where these have a sense, and its `Row` says the same by numbers. `specs/Answer.antt` says what
+//! stands beside a refusal.
 #![tactic(auto)]
 
 ghost use Rattle.std.specs.Prelude.{◌≡◌};
@@ -8,14 +9,14 @@ ghost use Rattle.refusal.specs.Refused as Refused;
 use std::error::Error;
 use std::fmt;
 
-// One of the two views of a point
+/// One of the two views of a point.
 #[derive(Clone, Copy, Debug, PartialEq, Eq)]
 pub enum View {
     First,
     Second,
 }
 
-// Why a call gives no result. An index is that of a point, and counts from 0.
+/// Why a call gives no result. An index is that of a point, and counts from 0.
 #[derive(Clone, Copy, Debug, PartialEq, Eq)]
 pub enum Refusal {
     Lengths,
@@ -26,7 +27,7 @@ pub enum Refusal {
     Point { index: u32 },
     TooFewPoints,
     Observation { view: View, index: u32 },
-    // of a point in one camera alone
+    /// Of a point in one camera alone.
     LoneProjection,
     Projection { view: View, index: u32 },
     NotFactored,
@@ -34,11 +35,12 @@ pub enum Refusal {
     WeakCount,
     Full,
     RecordTooLong,
-    // the broken field begins at this byte
+    /// The broken field begins at the byte `start`.
     RecordForm { start: u32 },
 }
 
-// A refusal by its numbers: the row, the view and the index, the last two 0 where they have no sense
+/// A refusal by its numbers: the row, the view and the index, the last two 0 where they have no
+/// sense.
 #[derive(Clone, Copy, Debug, PartialEq, Eq)]
 pub struct Row {
     pub number: u32,
@@ -47,7 +49,7 @@ pub struct Row {
 }
 
 impl View {
-    pub fn number(self) -> u32
+    fn number(self) -> u32
         ensures { result ≡ Refused.view_number self }
     {
         match self {
@@ -58,6 +60,7 @@ impl View {
 }
 
 impl Refusal {
+    /// The refusal by its numbers.
     #[tactic(auto, unfolding(crate::specs::Refused::row))]
     pub fn row(self) -> Row
         ensures { result ≡ Refused.row self }
@@ -83,7 +86,7 @@ impl Refusal {
     }
 }
 
-// `refused`, number, view, index
+/// Writes `refused`, the number, the view and the index.
 impl fmt::Display for Refusal {
     fn fmt<W: fmt::Write>(&self, f: &mut fmt::Formatter<W>) -> fmt::Result {
         let row = self.row();

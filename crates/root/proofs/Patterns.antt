@@ -39,7 +39,7 @@ abbrev pub power : ℕ → ℕ
 power zero = 0
 power (suc x) = x
 
-pub fields_value : (s : Bool) (x t : ℕ) → T (is_finite (of_fields binary64 s x t)) → HasValue (of_fields binary64 s x t) s (digits x t * 2 ^ power x) (2 ^ low binary64)
+fields_value : (s : Bool) (x t : ℕ) → T (is_finite (of_fields binary64 s x t)) → HasValue (of_fields binary64 s x t) s (digits x t * 2 ^ power x) (2 ^ low binary64)
 unfolding of_fields is_finite
 fields_value s zero t h = odd_sign 53 s t 0 1074
 fields_value s (suc x) t h = go (eqb (suc x) (ones binary64)) (eqb t 0) h
@@ -71,7 +71,7 @@ plain_fields b h =
 pub plain_finite : (b : ℕ) → b < 0x7ff0_0000_0000_0000 → T (is_finite (of_bits binary64 b))
 plain_finite b h = rw plain_fields (fields_finite false (b / 2 ^ 52) (b % 2 ^ 52) (omega arith))
 
-pub pattern_value : (b : ℕ) → b < 0x7ff0_0000_0000_0000 → HasValue (of_bits binary64 b) false (digits (b / 2 ^ 52) (b % 2 ^ 52) * 2 ^ power (b / 2 ^ 52)) (2 ^ low binary64)
+pattern_value : (b : ℕ) → b < 0x7ff0_0000_0000_0000 → HasValue (of_bits binary64 b) false (digits (b / 2 ^ 52) (b % 2 ^ 52) * 2 ^ power (b / 2 ^ 52)) (2 ^ low binary64)
 pattern_value b h = rw plain_fields (fields_value false (b / 2 ^ 52) (b % 2 ^ 52) (rw (← (plain_fields b h)) (plain_finite b h)))
 
 -- below 2 ^ 52 a pattern counts its units

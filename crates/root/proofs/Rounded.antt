@@ -69,7 +69,7 @@ module _ (n d k r : ℕ) (e : n ≡ d * 2 ^ (2 * k)) (lo : 2 ^ 104 ≤ d) (hi : 
       (nearest_is d (whole_root 53 d) (2 ^ (2 * k)) (lt_of_lt_of_le (lit< tt) lo) (pow_pos (2 * k)) (whole_root_is 53 d hi))
       near
 
-  pub root_is : nearest_root n ≡ units binary64 false r k
+  root_is : nearest_root n ≡ units binary64 false r k
   unfolding nearest_root
   root_is =
       ap (rounded_root n) dropped
@@ -82,7 +82,7 @@ module _ (n d k r : ℕ) (e : n ≡ d * 2 ^ (2 * k)) (lo : 2 ^ 104 ≤ d) (hi : 
   pub root_low : 2 ^ 52 ≤ r
   root_low = nearest_low d r (2 ^ 52) lo near
 
-  pub root_high : r ≤ 2 ^ 53
+  root_high : r ≤ 2 ^ 53
   root_high = nearest_high d r (2 ^ 53) hi near
 
   module _ (small : k < 2000) where

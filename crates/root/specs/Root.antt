@@ -1,4 +1,5 @@
--- The square root of binary64: IEEE 754's, correctly rounded, defined by comparing squares of whole numbers.
+-- The square root of binary64: IEEE 754's, correctly rounded, defined by comparing squares of
+-- whole numbers.
 use Prim.Native.Nat.{ℕ, zero, suc, ◌+◌, ◌-◌, ◌*◌, ◌/◌, ◌^◌, ◌<◌, compare}
 use Rattle.std.specs.Prelude.{true, false, cond, T, leb, Float}
 use Rattle.std.specs.Float.{nan, inf, fin, binary64}
@@ -12,8 +13,9 @@ whole_root (suc d) n =
     let r = 2 * whole_root d (n / 4) in
     cond (leb (suc r * suc r) n) (suc r) r
 
--- √n, counted in units of 2 ^ -1074, with k of its digits dropped and the others, of which there are at most 53, kept as q.
--- Half-way between q and q + 1 lies (2 * q + 1) * 2 ^ k / 2, whose square is compared with n.
+-- √n, counted in units of 2 ^ -1074, with k of its digits dropped and the others, of which there
+-- are at most 53, kept as q. Half-way between q and q + 1 lies (2 * q + 1) * 2 ^ k / 2, whose
+-- square is compared with n.
 unfoldable pub rounded_root : ℕ → ℕ → Float
 unfolding whole_root
 rounded_root n k =
@@ -36,10 +38,10 @@ sqrt (fin true (suc m) e) = nan
 sqrt (fin false (suc m) e) = nearest_root (magnitude (fin false (suc m) e) * 2 ^ 1074)
 
 -- For an x that is finite and above zero: r is the square root that IEEE 754 asks for, a finite
--- binary64 not below zero, and no other lies as near to the exact root. A y below r lies further from
--- it if the middle of the two lies below the exact root, and a y above r if the middle lies above:
--- squared, in units of 2 ^ -1074. No tie occurs, so each is strict. (A y below zero lies further away
--- than +0.)
+-- binary64 not below zero, and no other lies as near to the exact root. A y below r lies further
+-- from it if the middle of the two lies below the exact root, and a y above r if the middle lies
+-- above: squared, in units of 2 ^ -1074. No tie occurs, so each is strict. (A y below zero lies
+-- further away than +0.)
 pub record CorrectlyRounded (x r : Float) : Type 0 where
   pub held : T (fits binary64 r)
   pub finite : T (is_finite r)

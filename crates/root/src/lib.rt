@@ -1,6 +1,7 @@
-// The square root of IEEE 754, from bits and whole numbers alone. The digits of x are scaled to a d
-// of 53 or 54 of them with an even power of two beside it; the root of d * 2 ^ 52 to the nearest whole
-// number then has the 53 digits of the result.
+//! The square root of IEEE 754, from bits and whole numbers alone.
+//!
+//! The digits of x are scaled to a d of 53 or 54 of them with an even power of two beside it; the
+//! root of d * 2 ^ 52 to the nearest whole number then has the 53 digits of the result.
 #![tactic(auto)]
 
 ghost use Rattle.std.specs.Prelude.{◌⊎◌, ◌≡◌, ◌+◌, ◌-◌, ◌*◌, ◌^◌, ◌≤◌, ◌<◌, T};
@@ -22,9 +23,9 @@ const LEAD: u64 = 0x10_0000_0000_0000;
 // 2 ^ 26: how near d has to be to an end of its range for `root_near_one`
 const NEAR: u64 = 0x400_0000;
 
-/// `f64::sqrt`. For a finite value above zero it is the binary64 nearest to the exact root, by IEEE
-/// 754. A zero of either sign, +∞ and NaN are their own roots; what lies below zero has a NaN for
-/// one.
+/// `f64::sqrt`. For a finite value above zero it is the binary64 nearest to the exact root, by
+/// IEEE 754. A zero of either sign, +∞ and NaN are their own roots; what lies below zero has a NaN
+/// for one.
 pub fn sqrt(x: f64) -> f64
     ensures result { result ≡ Root.sqrt x }
     ensures nearest { T (is_finite x) → T (lt zero x) → CorrectlyRounded x result }
@@ -70,8 +71,8 @@ struct Digits {
 }
 
 impl Digits {
-    // The whole number nearest to the root of d * 2 ^ 52. Near one, where the first pivot of every factor
-    // lies, it takes no division.
+    // The whole number nearest to the root of d * 2 ^ 52. Near one, where the first pivot of every
+    // factor lies, it takes no division.
     fn nearest_root(self) -> u64
         ensures { NearestRoot (self.value * 2 ^ 52) result }
     {
@@ -82,8 +83,8 @@ impl Digits {
         self.root_by_parts()
     }
 
-    // For a d near an end of its range: its root lies half as far, by its size, from 2 ^ 52 or 2 ^ 53 as d
-    // does from 2 ^ 52 or 2 ^ 54.
+    // For a d near an end of its range: its root lies half as far, by its size, from 2 ^ 52 or 2 ^
+    // 53 as d does from 2 ^ 52 or 2 ^ 54.
     #[tactic(auto, using(crate::proofs::Whole::root_over, crate::proofs::Whole::root_under))]
     fn root_near_one(self) -> u64
         requires { (self.value < 2 ^ 52 + 2 ^ 26) ⊎ (2 ^ 54 - 2 ^ 26 < self.value) }
@@ -97,7 +98,8 @@ impl Digits {
         }
     }
 
-    // The upper digits are the root of d, and the lower ones come from the remainder by one division.
+    // The upper digits are the root of d, and the lower ones come from the remainder by one
+    // division.
     fn root_by_parts(self) -> u64
         ensures { NearestRoot (self.value * 2 ^ 52) result }
     {
@@ -113,8 +115,8 @@ impl Digits {
         }
     }
 
-    // The whole part of the root of d. The mean of a guess and of what it leaves of d (Heron) is never
-    // below the root, and this one is too large by at most one.
+    // The whole part of the root of d. The mean of a guess and of what it leaves of d (Heron) is
+    // never below the root, and this one is too large by at most one.
     fn whole_root(self) -> u64
         ensures { WholeRoot self.value result }
     {
@@ -139,8 +141,8 @@ impl Digits {
 }
 
 // What a guess begins with, how it rises over the step, and by how much less towards its end. Any
-// numbers within these bounds would do: how near the guess is only decides how long the search after
-// it lasts.
+// numbers within these bounds would do: how near the guess is only decides how long the search
+// after it lasts.
 #[derive(Clone, Copy)]
 struct Parabola {
     start: u64,

@@ -10,7 +10,7 @@ use lib.Dec.{eqb, ltb}
 use lib.ListN.{length, take, drop, length-append}
 use lib.Seq.{take_at}
 use lib.Ieee.{Float, binary64, to_bits}
-use Rattle.numerics.proofs.Fill.{length_tabulate}
+use Rattle.std.specs.Result.{result_and}
 use Rattle.std.specs.Prelude.{Ok, Err}
 use Rattle.refusal.specs.First.{Checked}
 use Rattle.refusal.specs.Refused.{row}
@@ -21,18 +21,18 @@ use Rattle.schur.specs.Model.{is_valid}
 use Rattle.schur.specs.declared.reduced_system.ReducedSystem.{ReducedSystem}
 use Rattle.problem.specs.Checks as Checks
 use Rattle.optimizer.specs.Assembly.{block_at, reduced_system}
-use Rattle.problem.proofs.Passed.{checked}
 use Rattle.optimizer.proofs.Blocks.{weak_at_most, costs_are_numbers}
 use Rattle.text.specs.Hex.{digits}
 use Rattle.run_record.specs.Fields.{point_fields}
 use Rattle.run_record.specs.Form as Form
-use Rattle.run_record.specs.Run.{column, run, damping}
+use Rattle.run_record.specs.Run.{run}
 use Rattle.text.specs.Text.{space, line_feed, digit, without_zeros, decimal, pasted, Put}
 use Rattle.problem.specs.Letters.{letter}
 use Rattle.run_list.specs.Lines.{bits_then, run_line, point_line, refused_line}
 use Rattle.run_list.specs.SumLine.{validity, verdict, sum_line}
 use Rattle.run_list.specs.Lists.{point_lines, lines_of, check, listed, list, max_list, fits, NeverNan, Wrote}
 use Rattle.run_record.proofs.Forms.{formed, few_points}
+use Rattle.run_record.proofs.Points.{count_points}
 use Rattle.text.proofs.Puts.{put_fits, put_length}
 
 -- ---- decimals
@@ -155,39 +155,34 @@ refused_length refusal =
 
 -- ---- the list
 
-count_run : (r : List ℕ) → count (run r) ≡ point_fields r
-unfolding run
-count_run r = length_tabulate (point_fields r) (column r 56 1)
-
-lines_length : (r : List ℕ) → check r ≡ Ok tt → length (lines_of r (reduced_system (run r))) ≤ max_list
-unfolding lines_of check
-lines_length r e =
-    let checks = after_ok (Form.check r) (Checks.check (run r)) e in
-    let n : point_fields r ≤ 512 = few_points r (formed r checks.0) in
-    let k = checked (run r) checks.1 in
-    let m = weak_at_most (run r) k.1 k.0.3 in
-    let i = count_run r in
-    let w : (reduced_system (run r)).weak_point_count ≤ point_fields r = omega arith in
-    let a = length-append (run_line (point_fields r) (damping r) ++ point_lines (run r) (point_fields r)) (sum_line (reduced_system (run r))) in
-    let b = length-append (run_line (point_fields r) (damping r)) (point_lines (run r) (point_fields r)) in
-    let c = run_length (point_fields r) (damping r) (omega arith) in
-    let d = points_length (run r) (point_fields r) (omega arith) in
-    let f = sum_length (reduced_system (run r)) (omega arith) in
+lines_length : (p : Problem) → Checks.check p ≡ Ok tt → count p ≤ 512 → length (lines_of p (reduced_system p)) ≤ max_list
+unfolding lines_of
+lines_length p e n =
+    let m = weak_at_most p in
+    let a = length-append (run_line (count p) p.damping ++ point_lines p (count p)) (sum_line (reduced_system p)) in
+    let b = length-append (run_line (count p) p.damping) (point_lines p (count p)) in
+    let c = run_length (count p) p.damping (omega arith) in
+    let d = points_length p (count p) (omega arith) in
+    let f = sum_length (reduced_system p) (omega arith) in
     omega arith
 
 pub list_fits : (r : List ℕ) → length (list r) ≤ max_list
-unfolding list
-list_fits r = by (check r) refl
+unfolding list check
+list_fits r = by (result_and (Form.check r) (Checks.check (run r))) refl
   where
-    by : (x : Checked) → check r ≡ x → length (listed r x) ≤ max_list
-    by (Ok tt) e = lines_length r e
+    by : (x : Checked) → result_and (Form.check r) (Checks.check (run r)) ≡ x → length (listed (run r) x) ≤ max_list
+    by (Ok tt) e =
+        let checks = after_ok (Form.check r) (Checks.check (run r)) e in
+        let few = few_points r (formed r checks.0) in
+        let n = count_points r (point_fields r) in
+        lines_length (run r) checks.1 (omega arith)
     by (Err f) e = let h = refused_length f in omega arith
 
 -- the sum line's cost and squared residual are never NaN
 pub sums_are_numbers : (r : List ℕ) → check r ≡ Ok tt → NeverNan r
 unfolding check
 sums_are_numbers r e =
-    let n = costs_are_numbers (run r) (checked (run r) (after_ok (Form.check r) (Checks.check (run r)) e).1).1 in
+    let n = costs_are_numbers (run r) (after_ok (Form.check r) (Checks.check (run r)) e).1 in
     record { cost = n.0; squared = n.1 }
 
 -- ---- written

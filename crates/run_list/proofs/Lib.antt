@@ -1,8 +1,6 @@
--- A law of bits as digits.
--- Laws of the run that a record holds and of its list: it meets no row below 3 (`Rows`), and the prefix read decides (`Prefix`).
-pub mod Bits
-mod Columns
+-- Laws of a list's lines and of its length (`Bounds`), the first row that its run can meet (`Rows`), and the prefix that decides it (`Prefix`).
+mod Bits
 mod Runs
-pub mod Bounds
-pub mod Rows
-pub mod Prefix
+mod Bounds
+mod Rows
+mod Prefix

@@ -1,6 +1,5 @@
--- Document 01, "Run record and its list": the lines.
--- Document 01, "Run record and its list": the list.
+-- The lines of a list, the list of a record, and what holds of every list.
 pub mod Lines
 pub mod SumLine
-pub mod Columns
 pub mod Lists
+pub mod Theorems

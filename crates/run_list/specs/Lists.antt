@@ -3,13 +3,12 @@ use Rattle.std.specs.Prelude.{ℕ, zero, suc, ◌≤◌, ◌≡◌, Bool, false,
 use Rattle.std.specs.Result.{result_and}
 use Rattle.std.specs.Float.Ieee.{is_nan}
 use Rattle.refusal.specs.First.{Checked}
-use Rattle.problem.specs.Problem.{Problem}
+use Rattle.problem.specs.Problem.{Problem, count}
 use Rattle.schur.specs.declared.reduced_system.ReducedSystem.{ReducedSystem}
 use Rattle.problem.specs.Checks as Checks
 use Rattle.optimizer.specs.Assembly.{block_at, reduced_system}
-use Rattle.run_record.specs.Fields.{point_fields}
 use Rattle.run_record.specs.Form as Form
-use Rattle.run_record.specs.Run.{run, damping}
+use Rattle.run_record.specs.Run.{run}
 use Rattle.text.specs.Text.{pasted}
 use Rattle.problem.specs.Letters.{letter}
 use Rattle.run_list.specs.Lines.{run_line, point_line, refused_line}
@@ -22,20 +21,20 @@ point_lines p zero = []
 point_lines p (suc n) = point_lines p n ++ point_line n (letter (block_at p n) p.damping)
 
 -- the lines of a run, with the sum line of a system
-unfoldable pub lines_of : List ℕ → ReducedSystem → List ℕ
-lines_of r s = run_line (point_fields r) (damping r) ++ point_lines (run r) (point_fields r) ++ sum_line s
+unfoldable pub lines_of : Problem → ReducedSystem → List ℕ
+lines_of p s = run_line (count p) p.damping ++ point_lines p (count p) ++ sum_line s
 
--- Rows 14 and 15, then the checks of the run. Of these rows 1 and 2 cannot come up (`checks_from_row_3`): the lists are made with as many numbers as the point fields ask for, and a record within `max_record` has 512 points at most.
+-- the lines of a run, or of its refusal
+abbrev pub listed : Problem → Checked → List ℕ
+listed p (Ok x) = lines_of p (reduced_system p)
+listed p (Err e) = refused_line e
+
+-- Rows 14 and 15, then the checks of the run. Of these rows 1 and 2 cannot come up (`FromRow3`).
 unfoldable pub check : List ℕ → Checked
 check r = result_and (Form.check r) (Checks.check (run r))
 
--- the lines of the run, or of its refusal
-abbrev pub listed : List ℕ → Checked → List ℕ
-listed r (Ok x) = lines_of r (reduced_system (run r))
-listed r (Err e) = refused_line e
-
 unfoldable pub list : List ℕ → List ℕ
-list r = listed r (check r)
+list r = listed (run r) (check r)
 
 -- no list has more bytes, so a buffer of that length always suffices
 abbrev pub max_list : ℕ

@@ -1,4 +1,4 @@
-// The lines of a list: document 01, "Run record and its list".
+// The lines of a list: words and numbers with single spaces between, and a line feed at the end.
 
 mod sum;
 

@@ -3,29 +3,21 @@ use mathlib.Core.Path.{◌≡◌, refl, sym}
 use mathlib.Core.Bool.{Bool, true, false, ◌&&◌, true≢false}
 use mathlib.Core.List.{List}
 use Prim.Native.Nat.{ℕ, zero, suc, ◌+◌, ◌*◌, ◌≤◌}
-use native.Mathlib.Nat.{add-zero}
 use native.Mathlib.Omega.{arith}
 use borrow.Author.Tests.{leb-true}
 use lib.Dec.{eqb, leb}
 use lib.ListN.{length}
 use Rattle.std.specs.Prelude.{Ok}
-use Rattle.std.specs.Int.{w16, from_le_bytes}
 use Rattle.refusal.specs.First.{unless, first}
 use Rattle.refusal.specs.declared.Refusal.TheVariants.{RecordTooLong}
 use Rattle.refusal.proofs.Scans.{after_ok, held, all_ok}
 use Rattle.run_record.specs.declared.fields.Field.{Field}
 use Rattle.run_record.specs.declared.fields.Field.TheVariants.{Camera1, Camera2, Pose, Basis, Damping, Point}
-use Rattle.run_record.specs.Fields.{tag, size, byte, bytes, point_at, point_fields, camera1_at, camera2_at, pose_at, basis_at, damping_at}
-use Rattle.run_record.specs.Form.{max_record, is_whole, check_field, check_header, check, Formed}
-
--- a field's length, read low byte first
-pub size_read : (r : List ℕ) (start : ℕ) → from_le_bytes w16 (bytes r (start + 1) 2) ≡ byte r (start + 1) + 256 * byte r (start + 2)
-size_read r start =
-    let e : start + 1 + 1 ≡ start + 2 = omega arith in
-    rw (add-zero (start + 1), e) (omega arith)
+use Rattle.run_record.specs.Fields.{tag, size, byte, point_at, point_fields, camera1_at, camera2_at, pose_at, basis_at, damping_at}
+use Rattle.run_record.specs.Form.{max_record, is_whole, check_field, check_header, check}
 
 module _ (r : List ℕ) (tag size start : ℕ) where
-  whole_fits : is_whole r tag size start ≡ true → start + 3 + size ≤ length r
+  pub whole_fits : is_whole r tag size start ≡ true → start + 3 + size ≤ length r
   unfolding is_whole
   whole_fits e = leb-true (start + 3 + size) (length r) (by (leb (start + 3 + size) (length r)) (eqb (byte r start) tag) (eqb (byte r (start + 1) + 256 * byte r (start + 2)) size) e)
     where
@@ -37,7 +29,10 @@ module _ (r : List ℕ) (tag size start : ℕ) where
 pub field_fits : (r : List ℕ) (field : Field) (start : ℕ) → check_field r field start ≡ Ok tt → start + 3 + size field ≤ length r
 field_fits r field start e = whole_fits r (tag field) (size field) start (held _ _ e)
 
--- what rows 14 and 15 leave
+-- what rows 14 and 15 leave: whole point fields to the end, and not too many
+abbrev pub Formed : List ℕ → Type 0
+Formed r = (length r ≡ point_at (point_fields r)) × (length r ≤ max_record)
+
 pub formed : (r : List ℕ) → check r ≡ Ok tt → Formed r
 unfolding check
 formed r e =

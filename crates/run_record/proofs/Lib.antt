@@ -1,4 +1,5 @@
--- Laws of the record's form.
--- Laws of the numbers that a record holds.
+-- Laws of a record's form, of the numbers in its payloads, and of its points.
 pub mod Forms
-mod Runs
+mod Headers
+mod Numbers
+pub mod Points

@@ -1,16 +1,11 @@
--- A run record's bytes, and where its fields begin.
-use Rattle.std.specs.Prelude.{ℕ, ◌+◌, ◌*◌, ◌-◌, ◌/◌, List, map, length, get_or}
-use Rattle.std.specs.List.{range_with_len}
+-- A run record's bytes, where its fields begin, and what a field carries.
+use Rattle.std.specs.Prelude.{ℕ, ◌+◌, ◌*◌, ◌-◌, ◌/◌, List, length, get_or, take, drop}
 use Rattle.run_record.specs.declared.fields.Field.{Field}
 use Rattle.run_record.specs.declared.fields.Field.TheVariants.{Camera1, Camera2, Pose, Basis, Damping, Point}
 
 -- the byte at an offset
 abbrev pub byte : List ℕ → ℕ → ℕ
 byte r i = get_or r i 0
-
--- so many bytes from an offset on
-abbrev pub bytes : List ℕ → ℕ → ℕ → List ℕ
-bytes r at n = map (λ i. byte r (at + i)) (range_with_len 0 n)
 
 -- the tag of a field, and the bytes of its payload
 abbrev pub tag : Field → ℕ
@@ -54,3 +49,7 @@ point_at i = points_at + 67 * i
 -- how many point fields begin before the end
 abbrev pub point_fields : List ℕ → ℕ
 point_fields r = (length r - points_at + 66) / 67
+
+-- the payload of the field that begins at a byte: what stands behind the three bytes before it
+abbrev pub payload : List ℕ → Field → ℕ → List ℕ
+payload r field start = take (size field) (drop (start + 3) r)

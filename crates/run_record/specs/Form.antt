@@ -1,5 +1,5 @@
 -- The form of a run record: fields of one tag byte, two length bytes (low first) and a payload. Tags 1 to 5 are due in order, once each; then tag 6 for each point to the end.
-use Rattle.std.specs.Prelude.{ℕ, ◌+◌, ◌*◌, ◌≤◌, ◌≡◌, Bool, ◌&&◌, List, [], ◌∷◌, eqb, leb, length}
+use Rattle.std.specs.Prelude.{ℕ, ◌+◌, ◌*◌, Bool, ◌&&◌, List, [], ◌∷◌, eqb, leb, length}
 use Rattle.refusal.specs.First.{Checked, unless, first_of, first}
 use Rattle.refusal.specs.declared.Refusal.TheVariants.{RecordTooLong, RecordForm}
 use Rattle.run_record.specs.declared.fields.Field.{Field}
@@ -36,7 +36,3 @@ check_points r = first (λ i. check_field r Point (point_at i)) 0 (point_fields 
 -- rows 14 and 15
 unfoldable pub check : List ℕ → Checked
 check r = first_of (unless (leb (length r) max_record) RecordTooLong ∷ check_header r ∷ check_points r ∷ [])
-
--- what rows 14 and 15 leave: whole point fields to the end, and not too many
-abbrev pub Formed : List ℕ → Type 0
-Formed r = (length r ≡ point_at (point_fields r)) × (length r ≤ max_record)

@@ -1,7 +1,6 @@
--- Document 01, "Run record and its list": a record's bytes, and where its fields begin.
--- Document 01, "Run record and its list": the record's form.
--- Document 01, "Run record and its list": the run that a record holds.
+-- A run record: its fields and their payloads, its form, what its reader hands out, and the run that it holds.
 pub mod Fields
 pub mod Form
+pub mod Places
 pub mod Reads
 pub mod Run

@@ -1,13 +1,17 @@
--- A reader holds a record's bytes and a place in them.
-use Rattle.std.specs.Prelude.{ℕ, ◌+◌, ◌≡◌}
-use Rattle.run_record.specs.Fields.{size}
+-- What is handed out of a record, field by field.
+use Rattle.std.specs.Prelude.{ℕ, List, Result, Ok}
+use Rattle.std.specs.Result.{result_and}
+use Rattle.std.specs.Borrow.{Bor}
+use Rattle.refusal.specs.Refused.{map_ok}
+use Rattle.refusal.specs.declared.Refusal.{Refusal}
+use Rattle.run_record.specs.Fields.{payload}
+use Rattle.run_record.specs.Form.{check_field}
 use Rattle.run_record.specs.declared.fields.Field.{Field}
-use Rattle.run_record.specs.declared.record_form.reader.Reader.{Reader}
 
--- at another place in the same bytes
-abbrev pub MovedTo : Reader → Reader → ℕ → Type 0
-MovedTo old new at = (new.«record» ≡ old.«record») × (new.at ≡ at)
+-- the payload of the field that is due at a byte; row 15 where that field is broken
+abbrev pub field_at : List ℕ → Field → ℕ → Result (List ℕ) Refusal
+field_at r field start = result_and (check_field r field start) (Ok (payload r field start))
 
--- behind the field at its place: three bytes and the payload
-abbrev pub MovedPast : Reader → Reader → Field → Type 0
-MovedPast old new field = MovedTo old new (old.at + 3 + size field)
+-- the bytes of a payload that is handed out as a slice
+abbrev pub bytes_of : Result (Bor (List ℕ)) Refusal → Result (List ℕ) Refusal
+bytes_of handed = map_ok (λ slice. slice.now) handed

@@ -1,82 +1,157 @@
-// What a record of the right form holds: numbers of eight bytes, low byte first. Each call has an answer for every record,
-// as beyond the end stand zeros.
+//! The run that a record holds.
 
-ghost use Rattle.std.specs.Prelude.{◌≡◌, ◌<◌, ◌*◌, ◌+◌, ◌^◌};
-ghost use Rattle.run_record.specs.Run as Run;
+ghost use Rattle.std.specs.Prelude.{◌≡◌, ◌<◌, ◌≤◌, ◌+◌, ◌++◌, [], take, Ok, OnOk, length};
+ghost use Rattle.std.specs.Result.{result_and};
+ghost use Rattle.problem.specs.Problem as Problems;
+ghost use Rattle.run_record.specs.Fields as Fields;
+ghost use Rattle.run_record.specs.Form as Form;
+ghost use Rattle.run_record.specs.Places as Places;
+ghost use Rattle.run_record.specs.Run as Runs;
 
-use crate::fields;
-use crate::fields::{HEAD_SIZE, NUMBER_SIZE};
-use linearization::views::{Correspondence, Pose};
-use problem::correspondences::Rig;
-use projection::PinholeCamera;
-use std::array;
+use crate::fields::Field;
+use crate::payload;
+use crate::reader::Reader;
+use linearization::views::Correspondence;
+use problem::correspondences::{Problem, Rig};
+use refusal::Refusal;
+use std::marker::Model;
 
-// The number at an offset
-#[tactic(auto, unfolding(crate::specs::Run::number_at), using(crate::proofs::Runs::word_read))]
-pub fn number_at(record: &[u8], at: usize) -> f64
-    ensures { result ≡ Run.number_at «record».now at }
-{
-    numerics::from_bits(u64::from_le_bytes(fields::bytes_at(record, at)))
+/// No record is longer: 512 points.
+pub const MAX_RECORD: usize = 34559;
+
+// The most points of a record
+const MAX_POINTS: usize = 512;
+
+/// A run of at most 512 points, with room for as many.
+#[derive(Drop)]
+pub struct Run {
+    points: [f64; 3 * MAX_POINTS],
+    view1: [f64; 2 * MAX_POINTS],
+    view2: [f64; 2 * MAX_POINTS],
+    inverse_deviations: [f64; MAX_POINTS],
+    count: usize,
+    rig: Rig,
+    damping: f64,
 }
 
-// Numbers one after the other, none of whose offsets wraps
-fn numbers_at<const N: usize>(record: &[u8], at: usize) -> [f64; N]
-    requires { at + 8 * N < 2 ^ 64 }
-    ensures { result ≡ Run.numbers_at «record».now at N }
-{
-    array::from_fn(|j| number_at(record, at + NUMBER_SIZE * j))
+impl Model for Run {
+    ghost use Rattle.std.specs.Prelude.{take, ◌*◌, ◌≤◌};
+    ghost use Rattle.problem.specs.Problem.{Problem, problem};
+
+    ghost Value = { Problem };
+
+    ghost view = { λ a. problem (take (3 * a.count) a.points) (take (2 * a.count) a.view1)
+        (take (2 * a.count) a.view2) (take a.count a.inverse_deviations) a.rig a.damping };
+
+    ghost invariant = { λ a. a.count ≤ 512 };
 }
 
-#[tactic(auto, unfolding(crate::specs::Run::camera_at), using(crate::proofs::Runs::camera_read))]
-fn camera_at(record: &[u8], at: usize) -> PinholeCamera
-    requires { at + 43 < 2 ^ 64 }
-    ensures { result ≡ Run.camera_at «record».now at }
-{
-    let [fx, fy, cx, cy, skew]: [f64; 5] = numbers_at(record, at + HEAD_SIZE);
-    PinholeCamera {
-        fx,
-        fy,
-        cx,
-        cy,
-        skew,
+impl Run {
+    // A run with no point yet
+    fn new(rig: Rig, damping: f64) -> Self
+        ensures { result ≡ Problems.problem [] [] [] [] rig damping }
+    {
+        Run {
+            points: [0.0; 3 * MAX_POINTS],
+            view1: [0.0; 2 * MAX_POINTS],
+            view2: [0.0; 2 * MAX_POINTS],
+            inverse_deviations: [0.0; MAX_POINTS],
+            count: 0,
+            rig,
+            damping,
+        }
+    }
+
+    // Puts the numbers of one more point behind those of the others.
+    #[tactic(auto, unfolding(crate::specs::Run::with_point))]
+    fn push(&mut self, correspondence: Correspondence)
+        requires { length self.old.deviations < 512 }
+        ensures { self.new ≡ Runs.with_point self.old correspondence }
+    {
+        let n = self.count;
+        put(&mut self.points, 3 * n, correspondence.point);
+        put(&mut self.view1, 2 * n, correspondence.view1);
+        put(&mut self.view2, 2 * n, correspondence.view2);
+        put(
+            &mut self.inverse_deviations,
+            n,
+            [correspondence.inverse_deviation],
+        );
+        self.count = n + 1;
+    }
+
+    /// The run as a problem of the optimizer, lent.
+    pub fn problem<'a>(&'a self) -> Problem<'a>
+        ensures { Problems.of result ≡ self.now }
+    {
+        let n = self.count;
+        Problem {
+            points: &self.points[..3 * n],
+            view1: &self.view1[..2 * n],
+            view2: &self.view2[..2 * n],
+            inverse_deviations: &self.inverse_deviations[..n],
+            rig: self.rig,
+            damping: self.damping,
+        }
     }
 }
 
-// The two cameras and the pose
-#[tactic(auto, unfolding(crate::specs::Run::rig))]
-pub fn rig_of(record: &[u8]) -> Rig
-    ensures { result ≡ Run.rig «record».now }
+// Puts numbers into a list from a place on.
+fn put<const N: usize>(list: &mut [f64], at: usize, numbers: [f64; N])
+    requires { at + N ≤ length list.old }
+    ensures { take (at + N) list.new ≡ take at list.old ++ numbers.entry }
 {
-    let pose = fields::POSE_AT + HEAD_SIZE;
-    let basis = fields::BASIS_AT + HEAD_SIZE;
-    Rig {
-        camera1: camera_at(record, fields::CAMERA1_AT),
-        camera2: camera_at(record, fields::CAMERA2_AT),
-        pose: Pose {
-            rotation: numbers_at(record, pose),
-            translation: numbers_at(record, pose + 9 * NUMBER_SIZE),
-            basis: numbers_at(record, basis),
-            baseline: number_at(record, basis + 6 * NUMBER_SIZE),
-        },
-    }
+    list[at..at + N].copy_from_slice(&numbers);
 }
 
-// The damping
-pub fn damping_of(record: &[u8]) -> f64
-    ensures { result ≡ Run.damping «record».now }
+/// The run that a record holds. Refuses a record that is longer than `MAX_RECORD` (row 14), and one
+/// with a broken field, of which it tells the byte where the first one begins (row 15).
+#[tactic(auto, unfolding(crate::specs::Form::check))]
+pub fn read(record: &[u8]) -> Result<Run, Refusal>
+    ensures { result ≡ result_and (Form.check «record».now) (Ok (Runs.run «record».now)) }
 {
-    number_at(record, fields::DAMPING_AT + HEAD_SIZE)
+    if record.len() > MAX_RECORD {
+        return Err(Refusal::RecordTooLong);
+    }
+    let mut reader = Reader {
+        bytes: record,
+        at: 0,
+    };
+    let mut run = read_header(&mut reader)?;
+    read_points(&mut reader, &mut run)?;
+    Ok(run)
 }
 
-// What a point's field holds
-pub fn correspondence_at(record: &[u8], i: u32) -> Correspondence
-    ensures { result ≡ Run.correspondence_of «record».now i }
+// The fields before the points: a run with no point yet
+fn read_header(reader: &mut Reader) -> Result<Run, Refusal>
+    requires { reader.old.at ≡ 0 }
+    ensures header { let r = reader.old.bytes.now in
+        result ≡ result_and (Form.check_header r) (Ok (Runs.first_points r 0)) }
+    ensures behind { OnOk result (Places.MovedTo reader.old reader.new Fields.points_at) }
 {
-    let at = fields::POINTS_AT + HEAD_SIZE + fields::POINT_STRIDE * (i as usize);
-    Correspondence {
-        point: numbers_at(record, at),
-        view1: numbers_at(record, at + 3 * NUMBER_SIZE),
-        view2: numbers_at(record, at + 5 * NUMBER_SIZE),
-        inverse_deviation: number_at(record, at + 7 * NUMBER_SIZE),
+    let camera1 = payload::camera(reader.next_field(Field::Camera1)?);
+    let camera2 = payload::camera(reader.next_field(Field::Camera2)?);
+    let pose = reader.next_field(Field::Pose)?;
+    let basis = reader.next_field(Field::Basis)?;
+    let damping = reader.next_field(Field::Damping)?;
+    let rig = Rig {
+        camera1,
+        camera2,
+        pose: payload::pose(pose, basis),
+    };
+    Ok(Run::new(rig, payload::number_at(damping, 0)))
+}
+
+// The fields of the points, to the record's end
+#[tactic(auto, using(crate::proofs::Points::room, crate::proofs::Points::ended, crate::proofs::Points::broken))]
+fn read_points(reader: &mut Reader, run: &mut Run) -> Result<(), Refusal>
+    requires place { reader.old.at ≡ Fields.points_at }
+    requires none { run.old ≡ Runs.first_points reader.old.bytes.now 0 }
+    ensures checked { result ≡ Form.check_points reader.old.bytes.now }
+    ensures all { OnOk result (run.new ≡ Runs.run reader.old.bytes.now) }
+{
+    while !reader.is_at_end() {
+        run.push(payload::correspondence(reader.next_field(Field::Point)?));
     }
+    Ok(())
 }

@@ -1,8 +1,8 @@
 -- `point_step_with_damping_norm` of schur.rs: how a point moves with a step of the pose.
 use Rattle.std.specs.Prelude.{ℕ, ◌+◌, ◌*◌, cond, List, Float, Result, Ok, Err}
 use Rattle.std.specs.Float.Ieee.{neg}
-use Rattle.numerics.specs.Binary64.{◌⊕◌, ◌⊗◌}
-use Rattle.numerics.specs.Vectors.{◌!◌, sum, tabulate}
+use Rattle.numerics.specs.Binary64.{◌⊕◌, ◌⊗◌, zero}
+use Rattle.numerics.specs.Vectors.{◌!◌, sum, tabulate, zeros}
 use Rattle.refusal.specs.declared.Refusal.{Refusal}
 use Rattle.refusal.specs.declared.Refusal.TheVariants.{Damping}
 use Rattle.point_block.specs.Damping.{good_damping, floored}
@@ -36,6 +36,10 @@ stepped inverse t pose_step =
 -- the step of a point by the formulas alone: that of its factor, where it has one
 abbrev pub step_at : PointTerms → Float → List Float → PointStep
 step_at t damping pose_step = stepped (inverse_at t.point_hessian damping) t pose_step
+
+-- +0 everywhere: what stands beside a refusal
+abbrev pub no_step : PointStep
+no_step = record { step = zeros 3; damping_norm = zero }
 
 -- tests row 10
 unfoldable pub damped_step : PointTerms → Float → List Float → Result PointStep Refusal

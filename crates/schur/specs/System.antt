@@ -1,8 +1,8 @@
 -- A block taken into the reduced system: `add` of schur.rs. Document 01, "The system".
 use Rattle.std.specs.Prelude.{ℕ, suc, ◌<◌, ◌≤◌, Bool, ◌&&◌, cond, leb, ltb, Float, Result, Ok, Err}
-use Rattle.std.specs.Result.{result_unwrap_or}
 use Rattle.numerics.specs.Extrema.{max}
 use Rattle.numerics.specs.Binary64.{◌⊕◌}
+use Rattle.refusal.specs.Answer.{answer}
 use Rattle.refusal.specs.declared.Refusal.{Refusal}
 use Rattle.refusal.specs.declared.Refusal.TheVariants.{Damping, WeakCount, Full}
 use Rattle.point_block.specs.Damping.{good_damping}
@@ -62,6 +62,6 @@ add s b damping =
     (cond (leb s.weak_point_count s.block_count) (cond (ltb s.block_count max_blocks) (Ok (taken s b damping)) (Err Full)) (Err WeakCount))
     (Err Damping)
 
--- the system that a call leaves its caller with: the one handed back, and, where it is refused, the one that the caller had
+-- the system that a call leaves its caller with, the values of its answer: the one handed back, and, where it is refused, the one that the caller had
 abbrev pub handed_back : ReducedSystem → Result ReducedSystem Refusal → ReducedSystem
-handed_back s r = result_unwrap_or r s
+handed_back s r = (answer s r).values

@@ -4,6 +4,7 @@
 // How a point moves with a step of the pose: `point_step_with_damping_norm` of kernel/two_view/schur.rs.
 
 ghost use Rattle.std.specs.Prelude.{◌≡◌, ◌<◌};
+ghost use Rattle.refusal.specs.Answer.{answer};
 ghost use Rattle.schur.specs.PointStep as Steps;
 
 use crate::pose_model;
@@ -14,21 +15,23 @@ use point_block::{PointBlockFactor, point_damping};
 use refusal::Refusal;
 use std::array;
 
-// A point's step and its damping norm
+/// A point's step and its damping norm
 #[derive(Clone, Copy)]
 pub struct PointStep {
     pub step: [f64; 3],
     pub damping_norm: f64,
 }
 
-// Tests row 3, then row 10.
+/// How a point moves with a step of the pose, by its block. Tests row 3, then row 10.
 #[tactic(auto, unfolding(crate::specs::PointStep::point_step))]
 pub fn point_step_with_damping_norm(
     local: LocalLinearization,
     damping: f64,
     pose_step: [f64; 5],
 ) -> Result<PointStep, Refusal>
-    ensures { result ≡ Steps.point_step local damping pose_step }
+    ensures result { result ≡ Steps.point_step local damping pose_step }
+    ensures answer { answer Steps.no_step result
+        ≡ answer Steps.no_step (Steps.point_step local damping pose_step) }
 {
     let damping = ValidDamping::new(damping)?;
     damped_step(PointTerms::from(local), damping, pose_step)
@@ -41,7 +44,9 @@ pub fn damped_step(
     damping: ValidDamping,
     pose_step: [f64; 5],
 ) -> Result<PointStep, Refusal>
-    ensures { result ≡ Steps.damped_step terms damping pose_step }
+    ensures result { result ≡ Steps.damped_step terms damping pose_step }
+    ensures answer { answer Steps.no_step result
+        ≡ answer Steps.no_step (Steps.damped_step terms damping pose_step) }
 {
     let factor = PointBlockFactor::factor(terms.point_hessian, damping.value())?;
     Ok(stepped(factor, terms, pose_step))

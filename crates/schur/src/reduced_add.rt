@@ -5,6 +5,7 @@
 
 ghost use Rattle.std.specs.Prelude.{◌≡◌, ◌<◌};
 ghost use Rattle.std.specs.Result.{result_err};
+ghost use Rattle.refusal.specs.Answer.{answer};
 ghost use Rattle.schur.specs.System as System;
 
 use crate::elimination::Change;
@@ -45,7 +46,8 @@ pub fn add(
     local: LocalLinearization,
     damping: f64,
 ) -> Result<ReducedSystem, Refusal>
-    ensures { result ≡ System.add system local damping }
+    ensures result { result ≡ System.add system local damping }
+    ensures answer { answer system result ≡ answer system (System.add system local damping) }
 {
     let damping = ValidDamping::new(damping)?;
     let system = OpenSystem::new(system)?;

@@ -5,6 +5,8 @@
 // kernel/two_view/schur.rs. Here is what is asked of it; `reduced_add` takes blocks in.
 
 ghost use Rattle.std.specs.Prelude.{◌≡◌};
+ghost use Rattle.numerics.specs.Binary64.{zero};
+ghost use Rattle.refusal.specs.Answer.{answer};
 ghost use Rattle.schur.specs.Model as Model;
 
 use crate::{gradient_norm, pose_model};
@@ -12,6 +14,7 @@ use numerics::{extrema, vectors};
 use point_block::point_damping::ValidDamping;
 use refusal::Refusal;
 
+/// The equations of the pose, with the sums and the counts of the blocks taken in
 #[derive(Clone, Copy)]
 pub struct ReducedSystem {
     pub hessian: [f64; 25],
@@ -30,6 +33,7 @@ pub struct ReducedSystem {
 }
 
 impl ReducedSystem {
+    /// A system with no block
     #[tactic(auto, unfolding(crate::specs::Model::new_system))]
     pub fn new() -> Self
         ensures { result ≡ Model.new_system }
@@ -50,10 +54,11 @@ impl ReducedSystem {
         }
     }
 
-    // Adds the damping to the pose's diagonal. Tests row 3.
+    /// Adds the damping to the pose's diagonal. Tests row 3.
     #[tactic(auto, unfolding(crate::specs::Model::finish_damping))]
     pub fn finish_damping(self, damping: f64) -> Result<Self, Refusal>
-        ensures { result ≡ Model.finish_damping self damping }
+        ensures result { result ≡ Model.finish_damping self damping }
+        ensures answer { answer self result ≡ answer self (Model.finish_damping self damping) }
     {
         let damping = ValidDamping::new(damping)?;
         Ok(self.damped(damping))
@@ -68,7 +73,7 @@ impl ReducedSystem {
         self.with_hessian(hessian)
     }
 
-    // Whether every block taken in factored, and the equations are finite
+    /// Whether every block taken in factored, and the equations are finite
     #[tactic(auto, unfolding(crate::specs::Model::is_valid))]
     pub fn is_valid(self) -> bool
         ensures { result ≡ Model.is_valid self }
@@ -76,7 +81,7 @@ impl ReducedSystem {
         self.valid & vectors::all_finite(&self.gradient) & vectors::all_finite(&self.hessian)
     }
 
-    // The largest scaled gradient entry of all points and of the pose
+    /// The largest scaled gradient entry of all points and of the pose
     #[tactic(auto, unfolding(crate::specs::Model::gradient_inf_norm))]
     pub fn scaled_gradient_inf_norm(self) -> f64
         ensures { result ≡ Model.gradient_inf_norm self }
@@ -85,7 +90,7 @@ impl ReducedSystem {
         extrema::max(self.scaled_point_gradient_inf_norm, pose)
     }
 
-    // What a step of the pose is predicted to gain. Tests row 3.
+    /// What a step of the pose is predicted to gain. Tests row 3.
     #[tactic(auto, unfolding(crate::specs::Model::predicted_reduction))]
     pub fn predicted_reduction(
         self,
@@ -93,7 +98,9 @@ impl ReducedSystem {
         damping: f64,
         point_damping_norm: f64,
     ) -> Result<f64, Refusal>
-        ensures { result ≡ Model.predicted_reduction self step damping point_damping_norm }
+        ensures result { result ≡ Model.predicted_reduction self step damping point_damping_norm }
+        ensures answer { answer zero result
+            ≡ answer zero (Model.predicted_reduction self step damping point_damping_norm) }
     {
         let damping = ValidDamping::new(damping)?;
         Ok(self.reduction_of(step, damping, point_damping_norm))

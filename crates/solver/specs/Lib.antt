@@ -1,2 +1,2 @@
--- Module 4 of document 01: `solve_positive_definite` of solver.rs.
+-- `solve_positive_definite` of solver.rs, at 5 unknowns.
 pub mod Solver

@@ -1,4 +1,5 @@
--- `solve_positive_definite` of solver.rs at 5, row by row in the Rust's order. The products of an entry are summed from −0, an empty sum too: a − (−0) turns −0 into +0.
+-- `solve_positive_definite` of solver.rs at 5, row by row in the Rust's order. The products of an
+-- entry are summed from −0, an empty sum too: a − (−0) turns −0 into +0.
 use Rattle.std.specs.Prelude.{ℕ, ◌+◌, ◌*◌, fold, Bool, not, ◌&&◌, cond, List, [], ◌∷◌, Float, Result, Ok, Err}
 use Rattle.std.specs.List.{range_with_len}
 use Rattle.std.specs.Float.Ieee.{le}
@@ -13,7 +14,8 @@ use Rattle.solver.specs.declared.Lower.{Lower}
 unfoldable pub products : List Float → ℕ → ℕ → Float
 products l i j = fold (λ s k. s ⊕ l ! (5 * i + k) ⊗ l ! (5 * j + k)) neg_zero (range_with_len 0 j)
 
--- The lower triangle, row by row: an entry left of the diagonal is its sum divided by the diagonal entry above, and the diagonal entry is the root of its sum, the pivot.
+-- The lower triangle, row by row: an entry left of the diagonal is its sum divided by the diagonal
+-- entry above, and the diagonal entry is the root of its sum, the pivot.
 unfoldable pub lower_of : List Float → Lower
 lower_of a =
     let s₀₀ = a ! 0 ⊖ sum [] in
@@ -91,7 +93,8 @@ solution l b = backward l (forward l b)
 abbrev pub no_solution : List Float
 no_solution = zeros 5
 
--- Row 11 where any input, any sum or any result is not finite or a pivot ≤ 0. The Rust leaves at the first of these; what it would have worked out afterwards decides nothing.
+-- Row 11 where any input, any sum or any result is not finite or a pivot ≤ 0. The Rust leaves at
+-- the first of these; what it would have worked out afterwards decides nothing.
 unfoldable pub solve_positive_definite : List Float → List Float → Result (List Float) Refusal
 solve_positive_definite a b =
     let l = lower_of a in

@@ -13,16 +13,16 @@ ghost use Rattle.solver.specs.Solver.{no_solution};
 use numerics::vectors;
 use refusal::Refusal;
 
-// The lower triangle, row by row, and the sums that its entries were made from. What lies right of the
-// diagonal is +0.
+// The lower triangle, row by row, and the sums that its entries were made from. What lies right of
+// the diagonal is +0.
 #[derive(Clone, Copy)]
 struct Lower {
     sums: [f64; 25],
     entries: [f64; 25],
 }
 
-/// The solution of `a x = b`. Refused with row 11 where an entry of `a` or `b`, a sum or a result is
-/// not finite, or a pivot is not above 0.
+/// The solution of `a x = b`. Refused with row 11 where an entry of `a` or `b`, a sum or a result
+/// is not finite, or a pivot is not above 0.
 #[tactic(auto, unfolding(crate::specs::Solver::solve_positive_definite))]
 pub fn solve_positive_definite(a: [f64; 25], b: [f64; 5]) -> Result<[f64; 5], Refusal>
     ensures result { result ≡ Solver.solve_positive_definite a b }
@@ -37,8 +37,9 @@ pub fn solve_positive_definite(a: [f64; 25], b: [f64; 5]) -> Result<[f64; 5], Re
     if good { Ok(x) } else { Err(Refusal::NotSolved) }
 }
 
-// An entry left of the diagonal is its sum divided by the diagonal entry above, and the diagonal entry
-// is the root of its sum, the pivot. Each needs the entries before it, which `from_fn` does not hand on.
+// An entry left of the diagonal is its sum divided by the diagonal entry above, and the diagonal
+// entry is the root of its sum, the pivot. Each needs the entries before it, which `from_fn` does
+// not hand on.
 fn lower_of(a: [f64; 25]) -> Lower
     ensures { result ≡ Solver.lower_of a }
 {

@@ -1,4 +1,4 @@
-// The line of a list's sums and of its verdict: document 01, "Run record and its list".
+// The line of a list's sums and of its verdict.
 
 ghost use Rattle.std.specs.Prelude.{◌≡◌};
 ghost use Rattle.run_list.specs.SumLine as SumLine;

@@ -1,29 +1,27 @@
 // The list of a run record.
 ghost use Rattle.std.specs.Prelude.{◌≡◌};
 ghost use Rattle.problem.specs.Checks as Checks;
+ghost use Rattle.problem.specs.Letters as Letters;
+ghost use Rattle.problem.specs.Problem as Problems;
 ghost use Rattle.optimizer.specs.Assembly as Assembly;
-ghost use Rattle.run_record.specs.Fields as Fields;
-ghost use Rattle.run_record.specs.Run as Run;
 ghost use Rattle.run_list.specs.Lists as Lists;
 ghost use Rattle.text.specs.Text as Text;
 
 use crate::lines;
-use crate::record::points::Column;
-use crate::record::well_formed::WellFormedRecord;
 use optimizer::assembly;
-use problem::correspondences::Problem;
+use point_block::point_damping::ValidDamping;
+use problem::checks::CheckedProblem;
+use problem::correspondences::{Problem, ProblemPoint};
 use problem::letters;
-use refusal::Refusal;
-use run_record::{fields, run};
-use schur::reduced_system::ReducedSystem;
+use run_record::run;
 use std::error::Error;
 use std::fmt;
 use text::Writer;
 
-// No list has more bytes.
+/// No list has more bytes.
 pub const MAX_LIST: usize = 4057;
 
-// A lent buffer has less than the bytes that the list needs.
+/// A lent buffer has less than the bytes that the list needs.
 #[derive(Clone, Copy, Debug, PartialEq, Eq)]
 pub struct TooSmall {
     pub needed: usize,
@@ -38,7 +36,8 @@ impl fmt::Display for TooSmall {
 
 impl Error for TooSmall {}
 
-// Writes the list of a record into out, and answers its length. Where it does not fit, nothing is written.
+/// Writes the list of a record into out, and answers its length. Where it does not fit, nothing is
+/// written.
 pub fn write_list(record: &[u8], out: &mut [u8]) -> Result<usize, TooSmall>
     ensures { Lists.Wrote «record».now out.old result out.new }
 {
@@ -57,65 +56,55 @@ fn put_list(out: &mut [u8], record: &[u8]) -> usize
     ensures { Text.Put (Lists.list «record».now) 0 out.old result out.new }
 {
     let mut writer = Writer::new(out);
-    match WellFormedRecord::new(record) {
-        Ok(record) => put_well_formed(&mut writer, &record),
+    match run::read(record) {
+        Ok(run) => put_listed(&mut writer, &run.problem()),
         Err(refusal) => lines::put_refused(&mut writer, refusal),
     }
     writer.at
 }
 
-// The list of a record of the right form: rows 3 to 9, then the lines
-#[tactic(auto, unfolding(optimizer::specs::Assembly::reduced))]
-fn put_well_formed(writer: &mut Writer, record: &WellFormedRecord)
-    ensures { Text.Wrote (Lists.listed «record».now (Checks.check (Run.run «record».now))) writer.old writer.new }
+// The list of a run: rows 3 to 9, then the lines
+fn put_listed(writer: &mut Writer, problem: &Problem)
+    ensures { let p = Problems.of problem.now in
+        Text.Wrote (Lists.listed p (Checks.check p)) writer.old writer.new }
 {
-    match reduced_system(record) {
-        Ok(system) => put_lines(writer, record, system),
+    match CheckedProblem::new(problem) {
+        Ok(checked) => put_lines(writer, &checked),
         Err(refusal) => lines::put_refused(writer, refusal),
     }
 }
 
-// The system of a record of the right form
-#[tactic(auto, using(crate::proofs::Runs::reduced_is))]
-fn reduced_system(record: &WellFormedRecord) -> Result<ReducedSystem, Refusal>
-    ensures { result ≡ Assembly.reduced (Run.run «record».now) }
-{
-    let n = fields::point_fields(record.bytes);
-    let points = Column::Points.numbers(record);
-    let view1 = Column::View1.numbers(record);
-    let view2 = Column::View2.numbers(record);
-    let inverse_deviations = Column::InverseDeviations.numbers(record);
-    assembly::reduced_system(&Problem {
-        points: &points[..3 * n],
-        view1: &view1[..2 * n],
-        view2: &view2[..2 * n],
-        inverse_deviations: &inverse_deviations[..n],
-        rig: run::rig_of(record.bytes),
-        damping: run::damping_of(record.bytes),
-    })
-}
-
 // The lines of a run that is not refused
 #[tactic(auto, using(text::proofs::Wrote::wrote_both), unfolding(crate::specs::Lists::lines_of))]
-fn put_lines(writer: &mut Writer, record: &WellFormedRecord, system: ReducedSystem)
-    ensures { Text.Wrote (Lists.lines_of «record».now system) writer.old writer.new }
+fn put_lines(writer: &mut Writer, problem: &CheckedProblem)
+    ensures { Text.Wrote (Lists.lines_of problem.now (Assembly.reduced_system problem.now))
+        writer.old writer.new }
 {
-    let n = fields::point_fields(record.bytes);
-    lines::put_run(writer, n as u32, run::damping_of(record.bytes));
-    put_points(writer, record);
-    lines::put_sum(writer, system);
+    let fitting = problem.fitting();
+    lines::put_run(writer, fitting.count(), fitting.problem.damping);
+    put_points(writer, problem);
+    lines::put_sum(writer, assembly::reduced_system(problem));
 }
 
 // A line for each point, with its index
 #[tactic(auto, using(crate::proofs::Runs::no_lines, crate::proofs::Runs::next_line))]
-fn put_points(writer: &mut Writer, record: &WellFormedRecord)
-    ensures { Text.Wrote (Lists.point_lines (Run.run «record».now) (Fields.point_fields «record».now)) writer.old writer.new }
+fn put_points(writer: &mut Writer, problem: &CheckedProblem)
+    ensures { Text.Wrote (Lists.point_lines problem.now (Problems.count problem.now))
+        writer.old writer.new }
 {
-    let rig = run::rig_of(record.bytes);
-    let damping = run::damping_of(record.bytes);
-    for i in 0..fields::point_fields(record.bytes) as u32 {
-        let block = assembly::block_of(rig, run::correspondence_at(record.bytes, i));
-        let letter = letters::letter(block, damping);
-        lines::put_point(writer, i, letter);
+    let fitting = problem.fitting();
+    let damping = problem.damping();
+    for index in 0..fitting.count() {
+        let point = ProblemPoint { fitting, index };
+        lines::put_point(writer, index, letter_of(point, damping));
     }
+}
+
+// How the block of a point factors at a damping
+fn letter_of(point: ProblemPoint, damping: ValidDamping) -> u8
+    ensures { result ≡ Letters.letter
+        (Assembly.block_at (Problems.of point.entry.fitting.problem.now) point.entry.index) damping }
+{
+    let block = linearization::block_of(&point.fitting.problem.rig, point.correspondence());
+    letters::letter(block, damping)
 }

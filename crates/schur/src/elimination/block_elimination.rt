@@ -12,7 +12,7 @@ use numerics::extrema;
 use point_block::PointBlockFactor;
 use point_block::point_damping::ValidDamping;
 
-// The equations after a block, and what the block shows of itself
+/// The equations after a block, and what the block shows of itself
 #[derive(Clone, Copy)]
 pub struct Change {
     pub hessian: [f64; 25],
