@@ -1,4 +1,4 @@
--- Demand 3, proved: one induction over the calls. Assumes nothing.
+-- The claim on every list of calls, proved by one induction over the calls. Assumes nothing.
 use mathlib.Core.Path.{◌≡◌, refl, sym, ap, ◌∙◌, subst}
 use mathlib.Core.Bool.{Bool, true, false, not, ◌&&◌, ◌||◌, cond, and-true, and_assoc, true≢false}
 use mathlib.Core.List.{List, [], ◌∷◌, ◌++◌, map}
@@ -10,7 +10,7 @@ use lib.ListN.{length}
 use lib.Ieee.{Float, fits, binary64, le, of_bits}
 use lib.Ieee.Bits.{is_true}
 use lib.Ieee.Fits.{add-fits}
-use Rattle.numerics.specs.Binary64.{◌⊕◌, zero, epsilon192}
+use Rattle.numerics.specs.Binary64.{zero, epsilon192}
 use Rattle.numerics.specs.Parts.{nonneg}
 use Rattle.numerics.proofs.Order.{le_refl, nonneg_not_nan, nonneg_add}
 use Rattle.numerics.proofs.Monotone.{le_add, le_trans, zero-le, nonneg_zero}
@@ -32,15 +32,19 @@ use Rattle.schur.specs.declared.reduced_system.ReducedSystem.{ReducedSystem}
 use Rattle.schur.specs.Model.{new_system}
 use Rattle.schur.specs.Elimination.{reduced_hessian, reduced_gradient, point_reduction}
 use Rattle.schur.specs.BlockElimination.{not_eliminated, eliminated, eliminate}
+use Rattle.schur.proofs.Room.{blocks_taken, weak_taken_at_most}
 use Rattle.schur.specs.System.{max_blocks, raised, taken_with, taken_by, taken, add, handed_back}
 use Rattle.add_sequences.specs.Calls.{Inputs, made, Call, at_damping, at_refused, next, results, after, after_blocks, Tally, factors, small_rcond, not_full, taken_in, tally, refusals, blocks_in, all, filter}
 use Rattle.linearization.proofs.Costs.{Costs, made_costs}
-use Rattle.add_sequences.specs.Claim.{CallByCall, final, SameEquations, Further, Claim}
+use Rattle.add_sequences.specs.Claim.{CallByCall, final, TakesInAll, SameEquations, Further, Claim}
 
 -- ---- what one call hands back
 
 abbrev Counts : ReducedSystem → Type 0
-Counts s = T (leb s.weak_point_count s.block_count)
+Counts s = s.weak_point_count ≤ s.block_count
+
+tested : (s : ReducedSystem) → Counts s → leb s.weak_point_count s.block_count ≡ true
+tested s c = is_true (leb s.weak_point_count s.block_count) (le→leb s.weak_point_count s.block_count c)
 
 add_bad : (s : ReducedSystem) (b : LocalLinearization) (x : Float) → good_damping x ≡ false → add s b x ≡ Err Damping
 unfolding add
@@ -49,11 +53,11 @@ add_bad s b x h = rw h refl
 module _ (d : Float) (good : T (good_damping d)) where
   add_taken : (s : ReducedSystem) (b : LocalLinearization) → Counts s → not_full s.block_count ≡ true → add s b d ≡ Ok (taken s b d)
   unfolding add
-  add_taken s b c e = rw (is_true (good_damping d) good, is_true (leb s.weak_point_count s.block_count) c, e) refl
+  add_taken s b c e = rw (is_true (good_damping d) good, tested s c, e) refl
 
   add_full : (s : ReducedSystem) (b : LocalLinearization) → Counts s → not_full s.block_count ≡ false → add s b d ≡ Err Full
   unfolding add
-  add_full s b c e = rw (is_true (good_damping d) good, is_true (leb s.weak_point_count s.block_count) c, e) refl
+  add_full s b c e = rw (is_true (good_damping d) good, tested s c, e) refl
 
   -- ---- a block taken in: whether it factors is the lone factor's answer
 
@@ -110,18 +114,6 @@ module _ (d : Float) (good : T (good_damping d)) where
       by false e = subst P (sym (taken_refused s b e)) (g e)
 
   module _ (s : ReducedSystem) (b : LocalLinearization) where
-    count_taken : (taken s b d).block_count ≡ suc s.block_count
-    unfolding eliminated not_eliminated taken_with
-    count_taken = split s b (λ t. t.block_count ≡ suc s.block_count) (λ e. refl) (λ e. refl)
-
-    cost_taken : (taken s b d).cost ≡ s.cost ⊕ b.cost
-    unfolding eliminated not_eliminated taken_with
-    cost_taken = split s b (λ t. t.cost ≡ s.cost ⊕ b.cost) (λ e. refl) (λ e. refl)
-
-    squared_taken : (taken s b d).squared_residual ≡ s.squared_residual ⊕ b.squared_residual
-    unfolding eliminated not_eliminated taken_with
-    squared_taken = split s b (λ t. t.squared_residual ≡ s.squared_residual ⊕ b.squared_residual) (λ e. refl) (λ e. refl)
-
     valid_taken : (taken s b d).valid ≡ (s.valid && factors d b)
     unfolding eliminated not_eliminated taken_with
     valid_taken = split s b (λ t. t.valid ≡ (s.valid && factors d b)) (λ e. rw e refl) (λ e. rw e refl)
@@ -132,14 +124,6 @@ module _ (d : Float) (good : T (good_damping d)) where
         split s b (λ t. t.weak_point_count ≡ raised (is_zero d && (not (factors d b) || small_rcond d b)) s.weak_point_count)
         (λ e. ap (λ (z : Bool). raised z s.weak_point_count) (rw (e, same_rcond b e) refl))
         (λ e. rw e (ap (λ (z : Bool). raised z s.weak_point_count) (sym (and-true (is_zero d)))))
-
-    counts_taken : Counts s → Counts (taken s b d)
-    counts_taken c =
-        rw (weak_taken, count_taken) (by (is_zero d && (not (factors d b) || small_rcond d b)) (leb→le s.weak_point_count s.block_count c))
-      where
-        by : (x : Bool) → s.weak_point_count ≤ s.block_count → T (leb (raised x s.weak_point_count) (suc s.block_count))
-        by true h = le→leb (suc s.weak_point_count) (suc s.block_count) (omega arith)
-        by false h = le→leb s.weak_point_count (suc s.block_count) (omega arith)
 
   -- the reduced equations see a block that factors, and no other
   module _ (s t : ReducedSystem) (b : LocalLinearization) (same : SameEquations s t) where
@@ -204,19 +188,21 @@ module _ (d : Float) (good : T (good_damping d)) where
         by false x n l = (k.rcond, le_refl m (nonneg_not_nan m k.rcond))
 
     sound_taken : Sound (taken s b d)
+    unfolding taken taken_with
     sound_taken = record {
-      counts = counts_taken s b k.counts;
-      cost = rw (cost_taken s b) (nonneg_add binary64 s.cost b.cost k.cost cost);
-      cost_fits = rw (cost_taken s b) (add-fits binary64 s.cost b.cost);
-      squared = rw (squared_taken s b) (nonneg_add binary64 s.squared_residual b.squared_residual k.squared squared);
-      squared_fits = rw (squared_taken s b) (add-fits binary64 s.squared_residual b.squared_residual);
+      counts = weak_taken_at_most s b d k.counts;
+      cost = nonneg_add binary64 s.cost b.cost k.cost cost;
+      cost_fits = add-fits binary64 s.cost b.cost;
+      squared = nonneg_add binary64 s.squared_residual b.squared_residual k.squared squared;
+      squared_fits = add-fits binary64 s.squared_residual b.squared_residual;
       rcond = rcond_taken.0;
     }
 
     further_taken : Further s (taken s b d)
+    unfolding taken taken_with
     further_taken = record {
-      cost = rw (cost_taken s b) (le_add binary64 s.cost b.cost k.cost_fits k.cost cost);
-      squared = rw (squared_taken s b) (le_add binary64 s.squared_residual b.squared_residual k.squared_fits k.squared squared);
+      cost = le_add binary64 s.cost b.cost k.cost_fits k.cost cost;
+      squared = le_add binary64 s.squared_residual b.squared_residual k.squared_fits k.squared squared;
       weak = rw (weak_taken s b) (by (is_zero d && (not (factors d b) || small_rcond d b)));
       rcond = rcond_taken.1;
       flag = λ h. valid_taken s b ∙ ap (λ (x : Bool). x && factors d b) h;
@@ -232,7 +218,7 @@ module _ (d : Float) (good : T (good_damping d)) where
   tally_of s = record { flag = s.valid; blocks = s.block_count; weak = s.weak_point_count }
 
   tally_taken : (s : ReducedSystem) (b : LocalLinearization) → tally_of (taken s b d) ≡ taken_in d (tally_of s) b
-  tally_taken s b = rw (valid_taken s b, count_taken s b, weak_taken s b) refl
+  tally_taken s b = rw (valid_taken s b, blocks_taken s b d, weak_taken s b) refl
 
   abbrev weak_in : List LocalLinearization → ℕ
   weak_in bs = length (filter (λ b. not (factors d b)) bs) + length (filter (λ b. factors d b && small_rcond d b) bs)
@@ -242,6 +228,8 @@ module _ (d : Float) (good : T (good_damping d)) where
     sound : Sound end
     tallied : tally_of end ≡ t
     blocks_alone : end ≡ after_blocks d s bs
+    takes_in : TakesInAll s bs end
+    how_many : s.block_count + length bs ≡ end.block_count
     flag : end.valid ≡ (s.valid && all (factors d) bs)
     elimination : (u : ReducedSystem) → Counts u → T (leb u.block_count s.block_count) → SameEquations s u
         → SameEquations end (after_blocks d u (filter (factors d) bs))
@@ -254,6 +242,8 @@ module _ (d : Float) (good : T (good_damping d)) where
     sound = k;
     tallied = refl;
     blocks_alone = refl;
+    takes_in = record { cost = refl; squared = refl; pose_gradient = refl; pose_diagonal = refl; point_gradient = refl };
+    how_many = omega arith;
     flag = sym (and-true s.valid);
     elimination = λ u c l same. same;
     weak_zero = λ z. omega arith;
@@ -272,6 +262,19 @@ module _ (d : Float) (good : T (good_damping d)) where
     next_sound = sound_taken s b k costs.0 costs.1
 
     module _ (end : ReducedSystem) (t : Tally) (bs : List LocalLinearization) (f : From (taken s b d) end t bs) where
+      from_takes_in : TakesInAll s (b ∷ bs) end
+      unfolding taken taken_with
+      from_takes_in = let g = f.takes_in in record {
+        cost = g.cost;
+        squared = g.squared;
+        pose_gradient = g.pose_gradient;
+        pose_diagonal = g.pose_diagonal;
+        point_gradient = g.point_gradient;
+      }
+
+      from_how_many : s.block_count + length (b ∷ bs) ≡ end.block_count
+      from_how_many = let e = f.how_many in let c = blocks_taken s b d in omega arith
+
       from_flag : end.valid ≡ (s.valid && all (factors d) (b ∷ bs))
       from_flag = f.flag ∙ ap (λ (x : Bool). x && all (factors d) bs) (valid_taken s b) ∙ and_assoc s.valid (factors d b) (all (factors d) bs)
 
@@ -297,15 +300,17 @@ module _ (d : Float) (good : T (good_damping d)) where
 
           by : (x : Bool) → factors d b ≡ x → SameEquations end (after_blocks d u (cond x (b ∷ filter (factors d) bs) (filter (factors d) bs)))
           by true e = subst (λ (a : Result ReducedSystem Refusal). SameEquations end (after_blocks d (handed_back u a) (filter (factors d) bs))) (sym (add_taken u b c u_free))
-              (f.elimination (taken u b d) (counts_taken u b c) (rw (count_taken u b, count_taken s b) (le→leb (suc u.block_count) (suc s.block_count) (omega (arith, below))))
+              (f.elimination (taken u b d) (weak_taken_at_most u b d c) (rw (blocks_taken u b d, blocks_taken s b d) (le→leb (suc u.block_count) (suc s.block_count) (omega (arith, below))))
               (equations_factored s u b same e))
-          by false e = f.elimination u c (rw (count_taken s b) (le→leb u.block_count (suc s.block_count) (omega (arith, below)))) (equations_refused s u b same e)
+          by false e = f.elimination u c (rw (blocks_taken s b d) (le→leb u.block_count (suc s.block_count) (omega (arith, below)))) (equations_refused s u b same e)
 
       from_taken : From s end t (b ∷ bs)
       from_taken = record {
         sound = f.sound;
         tallied = f.tallied;
         blocks_alone = f.blocks_alone ∙ sym (ap (λ (a : Result ReducedSystem Refusal). after_blocks d (handed_back s a) bs) (add_taken s b k.counts free));
+        takes_in = from_takes_in;
+        how_many = from_how_many;
         flag = from_flag;
         elimination = from_elimination;
         weak_zero = from_weak;
@@ -326,7 +331,7 @@ module _ (d : Float) (good : T (good_damping d)) where
           (cond x (made i ∷ blocks_in (suc s.block_count) cs) (blocks_in s.block_count cs))
       by true e f g = rw (add_taken s (made i) k.counts e)
           (from_taken s i k e (after d (taken s (made i) d) cs) (tally d (taken_in d (tally_of s) (made i)) cs) (blocks_in (suc s.block_count) cs)
-          (rw (← tally_taken s (made i), ← count_taken s (made i)) (f (next_sound s i k e))))
+          (rw (← tally_taken s (made i), ← blocks_taken s (made i) d) (f (next_sound s i k e))))
       by false e f g = rw (add_full s (made i) k.counts e) g
 
   refused_each : (s : ReducedSystem) (cs : List Call) → Sound s → map result_err (results d s cs) ≡ refusals d (tally_of s) cs
@@ -357,7 +362,7 @@ module _ (d : Float) (good : T (good_damping d)) where
 
   sound_new : Sound new_system
   unfolding new_system nonneg of_bits fits
-  sound_new = record { counts = tt; cost = tt; cost_fits = tt; squared = tt; squared_fits = tt; rcond = tt }
+  sound_new = record { counts = omega arith; cost = tt; cost_fits = tt; squared = tt; squared_fits = tt; rcond = tt }
 
   -- ---- the theorem
 
@@ -371,6 +376,8 @@ module _ (d : Float) (good : T (good_damping d)) where
       weak = ap (λ (t : Tally). t.weak) f.tallied;
       refused = refused_each new_system calls sound_new;
     };
+    takes_in = f.takes_in;
+    how_many = sym (zero-add (length (blocks_in 0 calls))) ∙ f.how_many ∙ ap (λ (t : Tally). t.blocks) f.tallied;
     flag = f.flag;
     elimination = f.elimination new_system sound_new.counts tt (record { hessian = refl; gradient = refl; reduction = refl });
     weak = record { undamped = λ z. f.weak_zero z ∙ zero-add (weak_in (blocks_in 0 calls)); damped = f.weak_other };

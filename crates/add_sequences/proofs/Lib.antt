@@ -1,2 +1,2 @@
--- Laws of the system, and the claim on lists.
+-- The claim on every list of calls, proved.
 pub mod Claim

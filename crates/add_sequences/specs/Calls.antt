@@ -1,4 +1,4 @@
--- Calls of `add`, one after the other, and the tally of them: document 01, "A list of adds".
+-- Calls of `add`, one after the other, and the tally of them.
 use Rattle.std.specs.Prelude.{ℕ, suc, ◌≡◌, Bool, true, false, not, ◌&&◌, ◌||◌, cond, List, [], ◌∷◌, ltb, Float, Result, Ok, Err, Option, Some, None, is_ok}
 use Rattle.std.specs.Float.Ieee.{le, eq}
 use Rattle.numerics.specs.Binary64.{zero, epsilon192}
@@ -18,11 +18,12 @@ pub record Inputs : Type 0 where
   pub rig : Rig
   pub correspondence : Correspondence
 
--- what the block maker returns, a refused point's +0 everywhere too
+-- what the block maker returns: the values of its `answer`, which are +0 everywhere beside a refusal
 abbrev pub made : Inputs → LocalLinearization
 made i = block_or_zeros (linearize_point i.rig i.correspondence)
 
--- A call brings a block that the block maker returned, from any inputs, and the list's damping or one that row 3 refuses.
+-- A call brings a block that the block maker returned, from any inputs, and the list's damping or one
+-- that is refused.
 pub data Call : Type 0 where
   at_damping : Inputs → Call
   at_refused : Inputs → (damping : Float) → good_damping damping ≡ false → Call
@@ -33,7 +34,7 @@ abbrev pub added : Float → ReducedSystem → Call → Result ReducedSystem Ref
 added d s (at_damping i) = add s (made i) d
 added d s (at_refused i x h) = add s (made i) x
 
--- the system after one of them
+-- the system after one of them: the values of the call's `answer`, which beside a refusal are the system as it was
 abbrev pub next : Float → ReducedSystem → Call → ReducedSystem
 next d s c = handed_back s (added d s c)
 
@@ -62,15 +63,15 @@ pub record Tally : Type 0 where
 abbrev pub start : Tally
 start = record { flag = true; blocks = 0; weak = 0 }
 
--- "A block factors if the lone factor gives one for it at the list's damping, and its rcond is the one given there; otherwise it is a refused block."
+-- A block factors if the lone factor gives one for it at the list's damping.
 unfoldable pub factors : Float → LocalLinearization → Bool
 factors d b = is_ok (lone_factor b.point_hessian d)
 
--- the rcond given there; of a refused block it is +0
+-- its rcond is the one given there; of a block that does not factor it is +0
 unfoldable pub small_rcond : Float → LocalLinearization → Bool
 small_rcond d b = le (elim (lone_factor b.point_hessian d) [ Ok f ↦ f.rcond | Err r ↦ zero ]) epsilon192
 
--- below row 13's block count
+-- room for one more block
 abbrev pub not_full : ℕ → Bool
 not_full blocks = ltb blocks max_blocks
 

@@ -1,10 +1,16 @@
--- Demand 3: what holds of every list of calls of `add` from a new system, at a damping that row 3 lets through. One record, with a field for each sentence.
-use Rattle.std.specs.Prelude.{ℕ, ◌+◌, ◌≡◌, true, false, not, ◌&&◌, List, [], ◌∷◌, ◌++◌, map, T, leb, length, Float, Result}
+-- What holds of every list of calls of `add` from a new system, at a damping that is let through. One
+-- record, with a field for each sentence.
+use Rattle.std.specs.Prelude.{ℕ, ◌+◌, ◌≡◌, true, false, not, ◌&&◌, List, [], ◌∷◌, ◌++◌, map, fold, T, leb, length, Float, Result}
 use Rattle.std.specs.Result.{result_err}
 use Rattle.std.specs.Float.Ieee.{le}
+use Rattle.numerics.specs.Binary64.{◌⊕◌}
+use Rattle.numerics.specs.Extrema.{max}
+use Rattle.refusal.specs.declared.Refusal.{Refusal}
+use Rattle.point_block.specs.Damping.{good_damping}
 use Rattle.linearization.specs.declared.linearize.LocalLinearization.{LocalLinearization}
 use Rattle.schur.specs.declared.reduced_system.ReducedSystem.{ReducedSystem}
-use Rattle.refusal.specs.declared.Refusal.{Refusal}
+use Rattle.schur.specs.GradientNorm.{point_gradient_norm}
+use Rattle.schur.specs.PoseModel.{sum5, diagonal5}
 use Rattle.schur.specs.Model.{new_system}
 use Rattle.schur.specs.System.{handed_back}
 use Rattle.add_sequences.specs.Calls.{Call, added, results, after, after_blocks, Tally, start, factors, small_rcond, at_zero, tally, refusals, blocks_in, all, filter}
@@ -32,6 +38,16 @@ pub record Tallied (d : Float) (calls : List Call) (t : Tally) : Type 0 where
   pub weak : (after d new_system calls).weak_point_count ≡ t.weak
   pub refused : map result_err (results d new_system calls) ≡ refusals d start calls
 
+-- What every block taken in brings, one that does not factor too: t has s's own figures with those of
+-- the blocks bs added one by one, and the largest of the point gradient norms.
+pub record TakesInAll (s : ReducedSystem) (bs : List LocalLinearization) (t : ReducedSystem) : Type 0 where
+  pub cost : t.cost ≡ fold (λ sum b. sum ⊕ b.cost) s.cost bs
+  pub squared : t.squared_residual ≡ fold (λ sum b. sum ⊕ b.squared_residual) s.squared_residual bs
+  pub pose_gradient : t.full_pose_gradient ≡ fold (λ sum b. sum5 sum b.pose_gradient) s.full_pose_gradient bs
+  pub pose_diagonal : t.pose_diagonal ≡ fold (λ sum b. sum5 sum (diagonal5 b.pose_hessian)) s.pose_diagonal bs
+  pub point_gradient : t.scaled_point_gradient_inf_norm
+      ≡ fold (λ so_far b. max so_far (point_gradient_norm b.point_gradient b.point_hessian)) s.scaled_point_gradient_inf_norm bs
+
 pub record SameEquations (s t : ReducedSystem) : Type 0 where
   pub hessian : s.hessian ≡ t.hessian
   pub gradient : s.gradient ≡ t.gradient
@@ -52,7 +68,13 @@ pub record Further (s t : ReducedSystem) : Type 0 where
 pub record Claim (d : Float) (calls : List Call) : Type 0 where
   pub figures : (ran : List (Result ReducedSystem Refusal)) → CallByCall d new_system calls ran → Figures d calls ran
   pub tallied : Tallied d calls (tally d start calls)
+  pub takes_in : TakesInAll new_system (blocks_in 0 calls) (after d new_system calls)
+  pub how_many : length (blocks_in 0 calls) ≡ (tally d start calls).blocks
   pub flag : (after d new_system calls).valid ≡ all (factors d) (blocks_in 0 calls)
   pub elimination : SameEquations (after d new_system calls) (after_blocks d new_system (filter (factors d) (blocks_in 0 calls)))
   pub weak : WeakCount d (after d new_system calls).weak_point_count (blocks_in 0 calls)
   pub further : (more : List Call) → Further (after d new_system calls) (after d new_system (calls ++ more))
+
+-- every list of calls of `add`, at every damping that is let through
+abbrev pub EveryListOfAdds : Type 0
+EveryListOfAdds = (d : Float) → T (good_damping d) → (calls : List Call) → Claim d calls

@@ -1,3 +1,3 @@
--- Module 5 of document 01: `add` of schur.rs.
+-- Lists of calls of `add`, and what holds of every one.
 pub mod Calls
 pub mod Claim

@@ -1,7 +1,16 @@
 // SPDX-FileCopyrightText: 2026 Pierre Moulon and OpenMVG Rust contributors
 // SPDX-License-Identifier: MIT OR Apache-2.0
 
-// The definition of `add` of kernel/two_view/schur.rs, and the claim on every list of its calls. There is no code: the
-// call is `schur::add`, whose contract cites specs/System.antt; specs/Claim.antt says what holds of a list, and
-// proofs/Claim.antt has the theorem.
+// Lists of calls of `add` of kernel/two_view/schur.rs: a new system takes blocks in, one after the other.
+// The call is `schur::add`; here is what holds of every list of them.
 #![tactic(auto)]
+
+ghost use Rattle.add_sequences.specs.Claim as Claim;
+
+/// What holds of every list of calls of `add` from a new system, at every damping that is let
+/// through: what each call answers, how many blocks are taken in, how many are weak and whether all
+/// factor; what the sums are, and that further calls never lower them; that only blocks that factor
+/// reach the equations, and that a refused call leaves no trace.
+pub fn every_list_of_adds()
+    ensures { Claim.EveryListOfAdds }
+{}

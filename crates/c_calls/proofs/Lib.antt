@@ -1,7 +1,6 @@
--- Laws of numbers read from lent slices, and copied to them.
--- Laws of numbers put one after the other.
--- What is written is read back, and so a list of adds over the C interface is one of `add`.
-pub mod Laws
-pub mod FlatLaws
+-- Numbers read from lent slices and written to them; what is written is read back; and so a list of adds over
+-- the C interface is one of `add`.
+pub mod Reading
+pub mod Writing
 pub mod ReadBack
-pub mod FlatListsLaws
+pub mod ListsOverC

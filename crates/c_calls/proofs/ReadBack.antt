@@ -11,7 +11,7 @@ use Rattle.numerics.specs.Vectors.{◌!◌}
 use Rattle.linearization.specs.declared.linearize.LocalLinearization.{LocalLinearization}
 use Rattle.schur.specs.declared.reduced_system.ReducedSystem.{ReducedSystem}
 use Rattle.c_calls.specs.Slices.{part}
-use Rattle.c_calls.proofs.Laws.{From, from_start, from_next, part_from}
+use Rattle.c_calls.proofs.Reading.{From, from_start, from_next, part_from}
 use Rattle.c_calls.specs.Flat.{block, system}
 use Rattle.c_calls.specs.FlatNumbers.{block_numbers, system_numbers, flag, system_counts}
 

@@ -1,5 +1,5 @@
 -- Numbers read from a lent slice, and written to one.
-use Rattle.std.specs.Prelude.{ℕ, ◌+◌, cond, List, leb, length, Float}
+use Rattle.std.specs.Prelude.{ℕ, ◌+◌, List, length, Float}
 use Rattle.std.proofs.Math.Seq.{paste}
 use Rattle.numerics.specs.Vectors.{◌!◌, tabulate}
 
@@ -8,5 +8,5 @@ unfoldable pub part : ℕ → ℕ → List Float → List Float
 part start n x = tabulate n (λ i. x ! (start + i))
 
 -- `out` with the values in it from `start` on, where they fit
-unfoldable pub put : List Float → ℕ → List Float → List Float
-put values start out = cond (leb (start + length values) (length out)) (paste out start values (length values)) out
+abbrev pub put : List Float → ℕ → List Float → List Float
+put values start out = paste out start values (length values)

@@ -3,7 +3,7 @@
 
 ghost use Rattle.std.specs.Prelude.{◌≡◌};
 ghost use Rattle.c_calls.specs.Answers as Answers;
-ghost use Rattle.c_calls.specs.BlockCallsCalls as Calls;
+ghost use Rattle.c_calls.specs.PointCalls as Calls;
 
 use crate::{answers, flat, slices};
 use projection::Projected;
@@ -11,7 +11,7 @@ use schur::point_step;
 use schur::point_step::PointStep;
 
 // camera: fx, fy, cx, cy, skew; observation: 2; point: 3; out: residual 2, Jacobian 6
-#[tactic(auto, unfolding(crate::specs::BlockCallsCalls::pixel_projection, crate::specs::Answers::answer))]
+#[tactic(auto, unfolding(crate::specs::PointCalls::pixel_projection))]
 pub fn pixel_projection(camera: &[f64], observation: &[f64], point: &[f64], out: &mut [f64]) -> u64
     ensures { Answers.Answered result out.new
         (Calls.pixel_projection camera.now observation.now point.now out.old) }
@@ -20,15 +20,15 @@ pub fn pixel_projection(camera: &[f64], observation: &[f64], point: &[f64], out:
         return answers::lengths();
     }
     let projected = projection::pixel_projection(
-        flat::camera(camera, 0),
-        slices::vector(observation, 0),
-        slices::vector(point, 0),
+        flat::camera(slices::whole(camera)),
+        slices::whole(observation),
+        slices::whole(point),
     );
     answers::answer(projected.map(projection_numbers), out)
 }
 
 // rig: 29; correspondence: point, view 1, view 2, inverse deviation, 8; out: a block
-#[tactic(auto, unfolding(crate::specs::BlockCallsCalls::linearize_point, crate::specs::Answers::answer))]
+#[tactic(auto, unfolding(crate::specs::PointCalls::linearize_point))]
 pub fn linearize_point(rig: &[f64], correspondence: &[f64], out: &mut [f64]) -> u64
     ensures { Answers.Answered result out.new
         (Calls.linearize_point rig.now correspondence.now out.old) }
@@ -44,7 +44,7 @@ pub fn linearize_point(rig: &[f64], correspondence: &[f64], out: &mut [f64]) -> 
 }
 
 // pose_step: 5; out: step 3, damping norm
-#[tactic(auto, unfolding(crate::specs::BlockCallsCalls::point_step, crate::specs::Answers::answer))]
+#[tactic(auto, unfolding(crate::specs::PointCalls::point_step))]
 pub fn point_step_with_damping_norm(
     block: &[f64],
     damping: f64,
@@ -60,7 +60,7 @@ pub fn point_step_with_damping_norm(
     let step = point_step::point_step_with_damping_norm(
         flat::block(block),
         damping,
-        slices::vector(pose_step, 0),
+        slices::whole(pose_step),
     );
     answers::answer(step.map(point_step_numbers), out)
 }

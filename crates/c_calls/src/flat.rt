@@ -1,102 +1,93 @@
-// The structs of the C interface, read from the flat numbers of lent slices. A number beyond the end of a slice is NaN, a
-// count 0.
+// The structs of the C interface, read from the flat numbers of lent slices.
 
-pub mod numbers;
+pub(crate) mod numbers;
 
-ghost use Rattle.std.specs.Prelude.{◌≡◌, get_or, length};
-ghost use Rattle.c_calls.specs.Slices as Slices;
+ghost use Rattle.std.specs.Prelude.{◌≡◌, length};
 ghost use Rattle.c_calls.specs.Flat as Flat;
 
 use crate::slices;
 use linearization::LocalLinearization;
 use linearization::views::{Correspondence, Pose, Rig};
-use numerics::vectors;
 use projection::PinholeCamera;
 use schur::reduced_system::ReducedSystem;
 
-// Five numbers, from `start` on
-pub fn camera(x: &[f64], start: u32) -> PinholeCamera
-    ensures part { result ≡ Flat.camera (Slices.part start 5 x.now) }
-    ensures whole { start ≡ 0 → length x.now ≡ 5 → result ≡ Flat.camera x.now }
+pub(crate) fn camera(x: [f64; 5]) -> PinholeCamera
+    ensures { result ≡ Flat.camera x }
 {
-    let numbers = slices::vector::<5>(x, start);
     PinholeCamera {
-        fx: numbers[0],
-        fy: numbers[1],
-        cx: numbers[2],
-        cy: numbers[3],
-        skew: numbers[4],
+        fx: x[0],
+        fy: x[1],
+        cx: x[2],
+        cy: x[3],
+        skew: x[4],
     }
 }
 
 // Camera 1 and 2, then how the second one sits
 #[tactic(auto, unfolding(crate::specs::Flat::rig))]
-pub fn rig(x: &[f64]) -> Rig
+pub(crate) fn rig(x: &[f64]) -> Rig
+    requires { length x.now ≡ 29 }
     ensures { result ≡ Flat.rig x.now }
 {
     Rig {
-        camera1: camera(x, 0),
-        camera2: camera(x, 5),
+        camera1: camera(slices::part(x, 0)),
+        camera2: camera(slices::part(x, 5)),
         pose: Pose {
-            rotation: slices::vector(x, 10),
-            translation: slices::vector(x, 19),
-            basis: slices::vector(x, 22),
-            baseline: vectors::entry(x, 28),
+            rotation: slices::part(x, 10),
+            translation: slices::part(x, 19),
+            basis: slices::part(x, 22),
+            baseline: x[28],
         },
     }
 }
 
 #[tactic(auto, unfolding(crate::specs::Flat::correspondence))]
-pub fn correspondence(x: &[f64]) -> Correspondence
+pub(crate) fn correspondence(x: &[f64]) -> Correspondence
+    requires { length x.now ≡ 8 }
     ensures { result ≡ Flat.correspondence x.now }
 {
     Correspondence {
-        point: slices::vector(x, 0),
-        view1: slices::vector(x, 3),
-        view2: slices::vector(x, 5),
-        inverse_deviation: vectors::entry(x, 7),
+        point: slices::part(x, 0),
+        view1: slices::part(x, 3),
+        view2: slices::part(x, 5),
+        inverse_deviation: x[7],
     }
 }
 
 #[tactic(auto, unfolding(crate::specs::Flat::block))]
-pub fn block(x: &[f64]) -> LocalLinearization
+pub(crate) fn block(x: &[f64]) -> LocalLinearization
+    requires { length x.now ≡ 59 }
     ensures { result ≡ Flat.block x.now }
 {
     LocalLinearization {
-        pose_hessian: slices::vector(x, 0),
-        cross_hessian: slices::vector(x, 25),
-        point_hessian: slices::vector(x, 40),
-        pose_gradient: slices::vector(x, 49),
-        point_gradient: slices::vector(x, 54),
-        cost: vectors::entry(x, 57),
-        squared_residual: vectors::entry(x, 58),
+        pose_hessian: slices::part(x, 0),
+        cross_hessian: slices::part(x, 25),
+        point_hessian: slices::part(x, 40),
+        pose_gradient: slices::part(x, 49),
+        point_gradient: slices::part(x, 54),
+        cost: x[57],
+        squared_residual: x[58],
     }
 }
 
 // The flag is false where it is 0.
 #[tactic(auto, unfolding(crate::specs::Flat::system))]
-pub fn system(x: &[f64], counts: &[u16]) -> ReducedSystem
+pub(crate) fn system(x: &[f64], counts: &[u16]) -> ReducedSystem
+    requires { (length x.now ≡ 45) × (length counts.now ≡ 3) }
     ensures { result ≡ Flat.system x.now counts.now }
 {
     ReducedSystem {
-        hessian: slices::vector(x, 0),
-        gradient: slices::vector(x, 25),
-        cost: vectors::entry(x, 30),
-        squared_residual: vectors::entry(x, 31),
-        full_pose_gradient: slices::vector(x, 32),
-        pose_diagonal: slices::vector(x, 37),
-        point_model_reduction: vectors::entry(x, 42),
-        scaled_point_gradient_inf_norm: vectors::entry(x, 43),
-        weak_point_count: count(counts, 0),
-        minimum_point_rcond: vectors::entry(x, 44),
-        valid: count(counts, 2) != 0,
-        block_count: count(counts, 1),
+        hessian: slices::part(x, 0),
+        gradient: slices::part(x, 25),
+        cost: x[30],
+        squared_residual: x[31],
+        full_pose_gradient: slices::part(x, 32),
+        pose_diagonal: slices::part(x, 37),
+        point_model_reduction: x[42],
+        scaled_point_gradient_inf_norm: x[43],
+        weak_point_count: counts[0],
+        minimum_point_rcond: x[44],
+        valid: counts[2] != 0,
+        block_count: counts[1],
     }
-}
-
-// The count at i; beyond the end it is 0.
-fn count(counts: &[u16], i: usize) -> u16
-    ensures { result ≡ get_or counts.now i 0 }
-{
-    counts.get(i).copied().unwrap_or(0)
 }

@@ -1,21 +1,19 @@
 // The calls of the C interface for one whole step of the two-view problem, and the limit of the pose step: `pixel_step`
 // exports them.
 
-ghost use Rattle.std.specs.Prelude.{◌≡◌, length};
+ghost use Rattle.std.specs.Prelude.{◌≡◌};
 ghost use Rattle.problem.specs.Problem as Problems;
-ghost use Rattle.refusal.specs.Refused.{map_ok};
 ghost use Rattle.c_calls.specs.Answers as Answers;
 ghost use Rattle.c_calls.specs.Flat as Flat;
-ghost use Rattle.c_calls.specs.StepCallsCalls as Calls;
+ghost use Rattle.c_calls.specs.StepCalls as Calls;
 
 use crate::{answers, flat, slices};
 use optimizer::{StepResult, pose_step};
 use problem::correspondences::Problem;
-use refusal::Refusal;
 
 // For n points: points and room 3n, views 2n each, inverse deviations n; rig: 29; out: 12; weak: 1.
 // C hands the lists over one by one.
-#[tactic(auto, unfolding(crate::specs::StepCallsCalls::step))]
+#[tactic(auto, unfolding(crate::specs::StepCalls::step, crate::specs::Answers::code))]
 pub fn step<'a>(
     points: &[f64],
     view1: &'a [f64],
@@ -42,34 +40,24 @@ pub fn step<'a>(
         rig: flat::rig(rig),
         damping,
     };
-    answer(optimizer::step(&problem, room), out, weak)
+    let step = match optimizer::step(&problem, room) {
+        Ok(step) => step,
+        Err(refusal) => return answers::code(refusal),
+    };
+    out.copy_from_slice(&step_numbers(step));
+    weak.copy_from_slice(&[step.weak_point_count]);
+    0
 }
 
 // x: 5; out: 5
-#[tactic(auto, unfolding(crate::specs::StepCallsCalls::limit_pose_step, crate::specs::Answers::answer))]
+#[tactic(auto, unfolding(crate::specs::StepCalls::limit_pose_step))]
 pub fn limit_pose_step(x: &[f64], out: &mut [f64]) -> u64
     ensures { Answers.Answered result out.new (Calls.limit_pose_step x.now out.old) }
 {
     if x.len() != 5 || out.len() != 5 {
         return answers::lengths();
     }
-    answers::answer(Ok(pose_step::limit_pose_step(slices::vector(x, 0))), out)
-}
-
-// Stores numbers and weak count where nothing was refused, and answers 0 or the refusal's code.
-fn answer(done: Result<StepResult, Refusal>, out: &mut [f64], weak: &mut [u16]) -> u64
-    requires { (length out.old ≡ 12) × (length weak.old ≡ 1) }
-    ensures number { result ≡ Answers.number done }
-    ensures numbers { out.new ≡ Answers.stored (map_ok Calls.step_numbers done) out.old }
-    ensures count { weak.new ≡ Answers.stored (map_ok Calls.step_count done) weak.old }
-{
-    let step = match done {
-        Ok(step) => step,
-        Err(refusal) => return answers::code(refusal),
-    };
-    answers::store(&step_numbers(step), out);
-    weak.copy_from_slice(&[step.weak_point_count]);
-    0
+    answers::answer(Ok(pose_step::limit_pose_step(slices::whole(x))), out)
 }
 
 fn step_numbers(s: StepResult) -> [f64; 12]

@@ -2,16 +2,15 @@
 // `pixel_step` exports them.
 
 ghost use Rattle.std.specs.Prelude.{[], ◌∷◌, ◌≡◌, length};
-ghost use Rattle.refusal.specs.Refused.{map_ok};
 ghost use Rattle.c_calls.specs.Answers as Answers;
 ghost use Rattle.c_calls.specs.FlatNumbers as FlatNumbers;
-ghost use Rattle.c_calls.specs.SystemCallsCalls as Calls;
+ghost use Rattle.c_calls.specs.SystemCalls as Calls;
 
 use crate::{answers, flat, slices};
 use refusal::Refusal;
 use schur::reduced_system::ReducedSystem;
 
-#[tactic(auto, unfolding(crate::specs::SystemCallsCalls::new_system, crate::specs::SystemCallsCalls::system_answer))]
+#[tactic(auto, unfolding(crate::specs::SystemCalls::new_system))]
 pub fn system_new(system: &mut [f64], counts: &mut [u16]) -> u64
     ensures { Calls.Changed result system.new counts.new
         (Calls.new_system system.old counts.old) }
@@ -22,7 +21,7 @@ pub fn system_new(system: &mut [f64], counts: &mut [u16]) -> u64
     answer(Ok(ReducedSystem::new()), system, counts)
 }
 
-#[tactic(auto, unfolding(crate::specs::SystemCallsCalls::add, crate::specs::SystemCallsCalls::system_answer))]
+#[tactic(auto, unfolding(crate::specs::SystemCalls::add))]
 pub fn system_add(system: &mut [f64], counts: &mut [u16], block: &[f64], damping: f64) -> u64
     ensures { Calls.Changed result system.new counts.new
         (Calls.add system.old counts.old block.now damping) }
@@ -35,7 +34,7 @@ pub fn system_add(system: &mut [f64], counts: &mut [u16], block: &[f64], damping
     answer(added, system, counts)
 }
 
-#[tactic(auto, unfolding(crate::specs::SystemCallsCalls::finish_damping, crate::specs::SystemCallsCalls::system_answer))]
+#[tactic(auto, unfolding(crate::specs::SystemCalls::finish_damping))]
 pub fn system_finish_damping(system: &mut [f64], counts: &mut [u16], damping: f64) -> u64
     ensures { Calls.Changed result system.new counts.new
         (Calls.finish_damping system.old counts.old damping) }
@@ -49,7 +48,7 @@ pub fn system_finish_damping(system: &mut [f64], counts: &mut [u16], damping: f6
 }
 
 // out: 0 or 1
-#[tactic(auto, unfolding(crate::specs::SystemCallsCalls::is_valid, crate::specs::Answers::answer))]
+#[tactic(auto, unfolding(crate::specs::SystemCalls::is_valid, crate::specs::Answers::code))]
 pub fn system_is_valid(system: &[f64], counts: &[u16], out: &mut [u16]) -> u64
     ensures { Answers.Answered result out.new
         (Calls.is_valid system.now counts.now out.old) }
@@ -63,7 +62,7 @@ pub fn system_is_valid(system: &[f64], counts: &[u16], out: &mut [u16]) -> u64
 }
 
 // out: 1
-#[tactic(auto, unfolding(crate::specs::SystemCallsCalls::gradient_inf_norm, crate::specs::Answers::answer))]
+#[tactic(auto, unfolding(crate::specs::SystemCalls::gradient_inf_norm))]
 pub fn system_scaled_gradient_inf_norm(system: &[f64], counts: &[u16], out: &mut [f64]) -> u64
     ensures { Answers.Answered result out.new
         (Calls.gradient_inf_norm system.now counts.now out.old) }
@@ -76,7 +75,7 @@ pub fn system_scaled_gradient_inf_norm(system: &[f64], counts: &[u16], out: &mut
 }
 
 // step: 5; out: 1
-#[tactic(auto, unfolding(crate::specs::SystemCallsCalls::predicted_reduction, crate::specs::Answers::answer))]
+#[tactic(auto, unfolding(crate::specs::SystemCalls::predicted_reduction))]
 pub fn system_predicted_reduction(
     system: &[f64],
     counts: &[u16],
@@ -92,7 +91,7 @@ pub fn system_predicted_reduction(
         return answers::lengths();
     }
     let s = flat::system(system, counts);
-    let predicted = s.predicted_reduction(slices::vector(step, 0), damping, point_damping_norm);
+    let predicted = s.predicted_reduction(slices::whole(step), damping, point_damping_norm);
     answers::answer(predicted.map(alone), out)
 }
 
@@ -104,19 +103,17 @@ fn alone(x: f64) -> [f64; 1]
 }
 
 // Stores the system where nothing was refused, and answers 0 or the refusal's code.
-#[tactic(auto, unfolding(crate::specs::FlatNumbers::system_counts))]
+#[tactic(auto, unfolding(crate::specs::Answers::code, crate::specs::FlatNumbers::system_counts))]
 fn answer(answered: Result<ReducedSystem, Refusal>, system: &mut [f64], counts: &mut [u16]) -> u64
     requires { (length system.old ≡ 45) × (length counts.old ≡ 3) }
-    ensures number { result ≡ Answers.number answered }
-    ensures numbers { system.new ≡ Answers.stored (map_ok FlatNumbers.system_numbers answered) system.old }
-    ensures counts { counts.new ≡ Answers.stored (map_ok FlatNumbers.system_counts answered) counts.old }
+    ensures { Calls.Changed result system.new counts.new
+        (Calls.system_answer (Calls.memory system.old counts.old) answered) }
 {
     let next = match answered {
         Ok(next) => next,
         Err(refusal) => return answers::code(refusal),
     };
-    let values = flat::numbers::system_numbers(next);
-    answers::store(&values, system);
+    system.copy_from_slice(&flat::numbers::system_numbers(next));
     counts.copy_from_slice(&[next.weak_point_count, next.block_count, flag(next.valid)]);
     0
 }

@@ -1,6 +1,6 @@
 // The 3 by 3 point block. A matrix is 9 numbers, row by row; an inverse is 6, packed.
 ghost use Rattle.c_calls.specs.Answers as Answers;
-ghost use Rattle.c_calls.specs.Calls as Calls;
+ghost use Rattle.c_calls.specs.MatrixCalls as Calls;
 
 use c_calls::matrix_calls;
 

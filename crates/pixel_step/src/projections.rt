@@ -1,6 +1,6 @@
 // The projection.
 ghost use Rattle.c_calls.specs.Answers as Answers;
-ghost use Rattle.c_calls.specs.BlockCallsCalls as Calls;
+ghost use Rattle.c_calls.specs.PointCalls as Calls;
 
 use c_calls::block_calls;
 

@@ -1,6 +1,6 @@
 // The 5 by 5 solve.
 ghost use Rattle.c_calls.specs.Answers as Answers;
-ghost use Rattle.c_calls.specs.Calls as Calls;
+ghost use Rattle.c_calls.specs.MatrixCalls as Calls;
 
 use c_calls::matrix_calls;
 

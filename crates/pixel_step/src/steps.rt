@@ -2,7 +2,7 @@
 ghost use Rattle.problem.specs.Problem as Problem;
 ghost use Rattle.c_calls.specs.Answers as Answers;
 ghost use Rattle.c_calls.specs.Flat as Flat;
-ghost use Rattle.c_calls.specs.StepCallsCalls as Calls;
+ghost use Rattle.c_calls.specs.StepCalls as Calls;
 
 use c_calls::step_calls;
 

@@ -1,6 +1,6 @@
 // The reduced system: 45 numbers, and beside them the weak count, the block count and the flag.
 ghost use Rattle.c_calls.specs.Answers as Answers;
-ghost use Rattle.c_calls.specs.SystemCallsCalls as Calls;
+ghost use Rattle.c_calls.specs.SystemCalls as Calls;
 
 use c_calls::system_calls;
 

@@ -7,7 +7,7 @@ use crate::slices;
 use linearization::LocalLinearization;
 use schur::reduced_system::ReducedSystem;
 
-pub fn block_numbers(b: LocalLinearization) -> [f64; 59]
+pub(crate) fn block_numbers(b: LocalLinearization) -> [f64; 59]
     ensures { result ≡ FlatNumbers.block_numbers b }
 {
     let mut values = [0.0; 59];
@@ -20,7 +20,7 @@ pub fn block_numbers(b: LocalLinearization) -> [f64; 59]
     values
 }
 
-pub fn system_numbers(s: ReducedSystem) -> [f64; 45]
+pub(crate) fn system_numbers(s: ReducedSystem) -> [f64; 45]
     ensures { result ≡ FlatNumbers.system_numbers s }
 {
     let mut values = [0.0; 45];

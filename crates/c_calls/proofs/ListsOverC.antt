@@ -7,7 +7,9 @@ use lib.Dec.{leb, ltb}
 use lib.ListN.{length}
 use lib.Ieee.{Float}
 use Rattle.std.specs.Prelude.{Result, Ok, Err}
-use Rattle.refusal.specs.Refused.{map_ok}
+use Rattle.std.specs.Result.{result_and}
+use Rattle.refusal.specs.Answer.{Answer, answer}
+use Rattle.refusal.specs.First.{Checked}
 use Rattle.refusal.specs.declared.Refusal.{Refusal}
 use Rattle.refusal.specs.declared.Refusal.TheVariants.{Damping, WeakCount, Full}
 use Rattle.linearization.specs.Accumulate.{pose_hessian, cross_hessian, point_hessian, pose_gradient, point_gradient}
@@ -15,7 +17,7 @@ use Rattle.point_block.specs.Damping.{good_damping, is_zero}
 use Rattle.point_block.specs.Lone.{factor}
 use Rattle.point_block.specs.declared.PointBlockFactor.{PointBlockFactor}
 use Rattle.schur.specs.PoseModel.{sum5}
-use Rattle.linearization.specs.Views.{linearize_views}
+use Rattle.linearization.specs.Views.{check_views, views_of}
 use Rattle.linearization.specs.declared.views.LinearizedViews.{LinearizedViews}
 use Rattle.linearization.specs.Linearize as Linearize
 use Rattle.linearization.specs.declared.linearize.LocalLinearization.{LocalLinearization}
@@ -24,25 +26,26 @@ use Rattle.schur.specs.declared.reduced_system.ReducedSystem.{ReducedSystem}
 use Rattle.schur.specs.Model.{new_system}
 use Rattle.schur.specs.BlockElimination.{not_eliminated, eliminated, eliminate}
 use Rattle.schur.specs.System.{max_blocks, taken_with, taken_by, taken, add, handed_back}
-use Rattle.add_sequences.specs.Calls.{Inputs, made, Call, at_damping, at_refused, added, next, results, after}
-use Rattle.c_calls.specs.Answers.{number, stored}
+use Rattle.add_sequences.specs.Calls.{Inputs, made, Call, at_damping, at_refused, added, next, results, after, Tally, start, tally}
+use Rattle.add_sequences.proofs.Claim.{claim}
+use Rattle.c_calls.specs.Answers.{code}
 use Rattle.c_calls.specs.Flat.{block, system}
 use Rattle.c_calls.specs.FlatNumbers.{block_numbers, system_numbers, system_counts}
-use Rattle.c_calls.specs.SystemCallsCalls as Calls
-use Rattle.c_calls.specs.SystemCallsCalls.{SystemAnswer, system_answer}
-use Rattle.c_calls.specs.FlatLists.{called, answers, left, Reaches}
+use Rattle.c_calls.specs.SystemCalls as Calls
+use Rattle.c_calls.specs.SystemCalls.{SystemMemory, memory, holding, system_answer}
+use Rattle.c_calls.specs.FlatLists.{called, answers, left, tallied, Reaches, EveryListOverC}
 use Rattle.c_calls.proofs.ReadBack.{Sized, numbers_long, counts_long, system_read, SizedBlock, block_long, block_read}
 
 -- ---- the lengths that blocks and systems have
 
-block_sized : (v : Result LinearizedViews Refusal) (w : Float) → SizedBlock (Linearize.block_or_zeros (map_ok (λ x. Linearize.block x w) v))
+block_sized : (r : Checked) (v : LinearizedViews) (w : Float) → SizedBlock (Linearize.block_or_zeros (result_and r (Ok (Linearize.block v w))))
 unfolding Linearize.no_block Linearize.block Linearize.sums Linearize.terms pose_hessian cross_hessian point_hessian pose_gradient point_gradient
-block_sized (Ok v) w = record { pose_hessian = refl; cross_hessian = refl; point_hessian = refl; pose_gradient = refl; point_gradient = refl }
-block_sized (Err r) w = record { pose_hessian = refl; cross_hessian = refl; point_hessian = refl; pose_gradient = refl; point_gradient = refl }
+block_sized (Ok t) v w = record { pose_hessian = refl; cross_hessian = refl; point_hessian = refl; pose_gradient = refl; point_gradient = refl }
+block_sized (Err r) v w = record { pose_hessian = refl; cross_hessian = refl; point_hessian = refl; pose_gradient = refl; point_gradient = refl }
 
 made_sized : (i : Inputs) → SizedBlock (made i)
-unfolding Linearize.linearize_point
-made_sized i = block_sized (linearize_views i.rig i.correspondence) i.correspondence.inverse_deviation
+unfolding Linearize.linearize_point Linearize.block_of
+made_sized i = block_sized (check_views i.rig i.correspondence) (views_of i.rig i.correspondence) i.correspondence.inverse_deviation
 
 new_sized : Sized new_system
 unfolding new_system
@@ -71,35 +74,33 @@ add_sized s b d k =
 
 -- ---- one call
 
--- memory that holds a system, with the number that came back
-abbrev holds : ℕ → ReducedSystem → SystemAnswer
-holds n s = record { number = n; numbers = system_numbers s; counts = system_counts s }
+-- what the call answers on memory that holds s: the answer of `add`, whose memory holds the system that it leaves
+abbrev held : ReducedSystem → Result ReducedSystem Refusal → Answer SystemMemory
+held s r = record { row = (answer new_system r).row; values = holding (handed_back s r) }
 
 -- a refused add leaves the system, and so what stands there
-add_stored : {A : Type 0} (f : ReducedSystem → List A) (s : ReducedSystem) (r : Result ReducedSystem Refusal)
-    → stored (map_ok f r) (f s) ≡ f (handed_back s r)
-add_stored f s (Ok t) = refl
-add_stored f s (Err e) = refl
+add_held : (s : ReducedSystem) (r : Result ReducedSystem Refusal) → system_answer (holding s) r ≡ held s r
+add_held s (Ok t) = refl
+add_held s (Err e) = refl
 
 -- the lengths fit, and the numbers are those of a system and a block
 add_of : (x : List Float) (counts : List ℕ) (y : List Float) (d : Float) (r : Result ReducedSystem Refusal) → length x ≡ 45 → length counts ≡ 3 → length y ≡ 59
-    → add (system x counts) (block y) d ≡ r → Calls.add x counts y d ≡ system_answer true r x counts
+    → add (system x counts) (block y) d ≡ r → Calls.add x counts y d ≡ system_answer (memory x counts) r
 unfolding Calls.add
 add_of x counts y d r e f g h = rw (e, f, g, h) refl
 
 add_written : (s : ReducedSystem) (b : LocalLinearization) (d : Float) → Sized s → SizedBlock b
-    → Calls.add (system_numbers s) (system_counts s) (block_numbers b) d ≡ holds (number (add s b d)) (handed_back s (add s b d))
-unfolding system_answer
+    → Calls.add (system_numbers s) (system_counts s) (block_numbers b) d ≡ held s (add s b d)
 add_written s b d k l =
     add_of (system_numbers s) (system_counts s) (block_numbers b) d (add s b d) (numbers_long s k) (counts_long s) (block_long b l)
     (ap₂ (λ (t : ReducedSystem) (c : LocalLinearization). add t c d) (system_read s k) (block_read b l))
-    ∙ ap₂ (λ (u : List Float) (v : List ℕ). record { number = number (add s b d); numbers = u; counts = v }) (add_stored system_numbers s (add s b d)) (add_stored system_counts s (add s b d))
+    ∙ add_held s (add s b d)
 
 -- ---- a list of calls
 
-called_written : (d : Float) (n : ℕ) (s : ReducedSystem) (c : Call) → Sized s → called d (holds n s) c ≡ holds (number (added d s c)) (next d s c)
-called_written d n s (at_damping i) k = add_written s (made i) d k (made_sized i)
-called_written d n s (at_refused i x h) k = add_written s (made i) x k (made_sized i)
+called_written : (d : Float) (s : ReducedSystem) (c : Call) → Sized s → called d (holding s) c ≡ held s (added d s c)
+called_written d s (at_damping i) k = add_written s (made i) d k (made_sized i)
+called_written d s (at_refused i x h) k = add_written s (made i) x k (made_sized i)
 
 next_sized : (d : Float) (s : ReducedSystem) (c : Call) → Sized s → Sized (next d s c)
 next_sized d s (at_damping i) k = add_sized s (made i) d k
@@ -109,37 +110,46 @@ after_sized : (d : Float) (s : ReducedSystem) (cs : List Call) → Sized s → S
 after_sized d s [] k = k
 after_sized d s (c ∷ cs) k = after_sized d (next d s c) cs (next_sized d s c k)
 
-left_numbers : (d : Float) (n : ℕ) (s : ReducedSystem) (cs : List Call) → Sized s
-    → ((left d (holds n s) cs).numbers ≡ system_numbers (after d s cs)) × ((left d (holds n s) cs).counts ≡ system_counts (after d s cs))
-left_numbers d n s [] k = (refl, refl)
-left_numbers d n s (c ∷ cs) k =
-    let e = called_written d n s c k in
-    let h = left_numbers d (number (added d s c)) (next d s c) cs (next_sized d s c k) in
-    (ap (λ (m : SystemAnswer). (left d m cs).numbers) e ∙ h.0, ap (λ (m : SystemAnswer). (left d m cs).counts) e ∙ h.1)
+left_holds : (d : Float) (s : ReducedSystem) (cs : List Call) → Sized s → left d (holding s) cs ≡ holding (after d s cs)
+left_holds d s [] k = refl
+left_holds d s (c ∷ cs) k =
+    ap (λ (a : Answer SystemMemory). left d a.values cs) (called_written d s c k) ∙ left_holds d (next d s c) cs (next_sized d s c k)
 
-codes_back : (d : Float) (n : ℕ) (s : ReducedSystem) (cs : List Call) → Sized s
-    → map (λ (a : SystemAnswer). a.number) (answers d (holds n s) cs) ≡ map number (results d s cs)
-codes_back d n s [] k = refl
-codes_back d n s (c ∷ cs) k =
-    ap (λ (m : SystemAnswer). m.number ∷ map (λ (a : SystemAnswer). a.number) (answers d m cs)) (called_written d n s c k)
-    ∙ ap (λ (l : List ℕ). number (added d s c) ∷ l) (codes_back d (number (added d s c)) (next d s c) cs (next_sized d s c k))
+-- the number that comes back of a result
+abbrev code_of : Result ReducedSystem Refusal → ℕ
+code_of r = code (answer new_system r).row
 
-new_written : (x : List Float) (counts : List ℕ) → length x ≡ 45 → length counts ≡ 3 → Calls.new_system x counts ≡ holds 0 new_system
-unfolding Calls.new_system system_answer
+codes_back : (d : Float) (s : ReducedSystem) (cs : List Call) → Sized s
+    → map (λ (a : Answer SystemMemory). code a.row) (answers d (holding s) cs) ≡ map code_of (results d s cs)
+codes_back d s [] k = refl
+codes_back d s (c ∷ cs) k =
+    ap (λ (a : Answer SystemMemory). code a.row ∷ map (λ (a : Answer SystemMemory). code a.row) (answers d a.values cs)) (called_written d s c k)
+    ∙ ap (λ (l : List ℕ). code_of (added d s c) ∷ l) (codes_back d (next d s c) cs (next_sized d s c k))
+
+new_written : (x : List Float) (counts : List ℕ) → length x ≡ 45 → length counts ≡ 3 → Calls.new_system x counts ≡ held new_system (Ok new_system)
+unfolding Calls.new_system
 new_written x counts e f = rw (e, f) refl
 
-begun_reaches : (d : Float) (calls : List Call) → Reaches d calls (holds 0 new_system)
+-- the counts of the system that a list reaches, by its tally
+counts_tallied : (s : ReducedSystem) (t : Tally) → s.valid ≡ t.flag → s.block_count ≡ t.blocks → s.weak_point_count ≡ t.weak → system_counts s ≡ tallied t
+unfolding system_counts
+counts_tallied s t e f g = rw (e, f, g) refl
+
+begun_reaches : (d : Float) (calls : List Call) → Reaches d calls (held new_system (Ok new_system))
+unfolding code
 begun_reaches d calls =
-    let l = left_numbers d 0 new_system calls new_sized in
+    let l = left_holds d new_system calls new_sized in
     record {
       begins = refl;
-      numbers = l.0;
-      counts = l.1;
-      codes = codes_back d 0 new_system calls new_sized;
-      read = ap₂ (λ (x : List Float) (n : List ℕ). system x n) l.0 l.1 ∙ system_read (after d new_system calls) (after_sized d new_system calls new_sized);
+      memory = l;
+      codes = codes_back d new_system calls new_sized;
+      read = ap (λ (m : SystemMemory). system m.numbers m.counts) l ∙ system_read (after d new_system calls) (after_sized d new_system calls new_sized);
+      counts = λ good.
+          let t = (claim d good calls).tallied in
+          ap (λ (m : SystemMemory). m.counts) l ∙ counts_tallied (after d new_system calls) (tally d start calls) t.flag t.blocks t.weak;
     }
 
 -- ---- the theorem
 
-pub reaches : (d : Float) (calls : List Call) (x : List Float) (counts : List ℕ) → length x ≡ 45 → length counts ≡ 3 → Reaches d calls (Calls.new_system x counts)
-reaches d calls x counts e f = subst⁻¹ (Reaches d calls) (new_written x counts e f) (begun_reaches d calls)
+pub every_list : EveryListOverC
+every_list d calls x counts e f = subst⁻¹ (Reaches d calls) (new_written x counts e f) (begun_reaches d calls)

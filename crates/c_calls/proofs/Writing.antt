@@ -7,7 +7,6 @@ use lib.ListN.{length, length-append, length-drop, take, drop, drop_of_length-le
 use lib.Seq.{paste, take-length, take_at, drop-append-add}
 use lib.Ieee.{Float}
 use Rattle.c_calls.specs.Slices.{put}
-use Rattle.c_calls.proofs.Laws.{put_fits}
 
 -- p was put so far, and q stands behind it
 pub record Put (x p q : List Float) (at left : ℕ) : Type 0 where
@@ -18,16 +17,10 @@ pub record Put (x p q : List Float) (at left : ℕ) : Type 0 where
 pub put_none : (x : List Float) (n : ℕ) → length x ≡ n → Put x [] x 0 n
 put_none x n e = record { same = refl; before = refl; behind = e }
 
-module _ (x p q y v : List Float) (at left n : ℕ) (h : Put x p q at left) (l : length v ≡ n) (k : n ≤ left) (e : y ≡ put v at x) where
-  room : at + length v ≤ length x
-  room =
-      let m = ap length h.same ∙ length-append p q in
-      omega (arith, m, h.before, h.behind, l, k)
-
+module _ (x p q y v : List Float) (at left n : ℕ) (h : Put x p q at left) (l : length v ≡ n) (e : y ≡ put v at x) where
   put_behind : y ≡ p ++ v ++ drop n q
   put_behind =
       e
-      ∙ put_fits v at x room
       ∙ ap (λ (t : List Float). paste t at v (length v)) h.same
       ∙ ap (λ (t : List Float). t ++ take (length v) v ++ drop (at + length v) (p ++ q)) (take_at p q at h.before)
       ∙ ap (λ (t : List Float). p ++ t ++ drop (at + length v) (p ++ q)) (take-length v)

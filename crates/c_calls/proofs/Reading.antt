@@ -1,18 +1,13 @@
--- Numbers read from lent slices, and copied to them. Assumes nothing.
+-- Numbers read from a list. Assumes nothing.
 use mathlib.Core.Path.{◌≡◌, refl, sym, ap, ap₂, ◌∙◌}
-use mathlib.Core.List.{List, [], ◌∷◌, ◌++◌, append-nil}
-use Prim.Native.Nat.{ℕ, zero, suc, ◌+◌, ◌≤◌}
+use mathlib.Core.List.{List, [], ◌∷◌, ◌++◌}
+use Prim.Native.Nat.{ℕ, zero, suc, ◌+◌}
 use native.Mathlib.Nat.{zero-add, add_assoc}
-use native.Mathlib.Omega.{arith}
-use lib.Dec.{leb, le→leb}
-use lib.ListN.{length, drop}
-use lib.Seq.{paste, take-length, drop-length, get_or-append-add}
+use lib.ListN.{length}
+use lib.Seq.{get_or-append-add}
 use lib.Ieee.{Float, nan}
-use lib.Ieee.Bits.{is_true}
 use Rattle.numerics.specs.Vectors.{◌!◌, tabulate}
-use Rattle.c_calls.specs.Slices.{part, put}
-
--- ---- reading
+use Rattle.c_calls.specs.Slices.{part}
 
 tabulate_same : (n : ℕ) (f g : ℕ → Float) → ((i : ℕ) → f i ≡ g i) → tabulate n f ≡ tabulate n g
 tabulate_same zero f g e = refl
@@ -38,24 +33,3 @@ pub part_from : (x a y : List Float) (k n : ℕ) → From x k (a ++ y) → lengt
 unfolding part
 part_from x a y k n h e =
     tabulate_same n (λ i. x ! (k + i)) (λ i. (a ++ y) ! i) h ∙ ap (λ (m : ℕ). tabulate m (λ i. (a ++ y) ! i)) (sym e) ∙ tabulate_front a y
-
--- all numbers of a list
-pub whole : (x : List Float) (n : ℕ) (r : List Float) → length x ≡ n → r ≡ part 0 n x → r ≡ x
-whole x n r e h = h ∙ part_from x x [] 0 n (from_start x (x ++ []) (sym (append-nil x))) e
-
--- ---- writing
-
--- values that fit
-pub put_fits : (v : List Float) (at : ℕ) (o : List Float) → at + length v ≤ length o → put v at o ≡ paste o at v (length v)
-unfolding put
-put_fits v at o h = rw (is_true (leb (at + length v) (length o)) (le→leb (at + length v) (length o) h)) refl
-
--- as many values as there is room for
-pub put_all : (v o : List Float) → length v ≡ length o → put v 0 o ≡ v
-put_all v o e =
-    let n : 0 + length v ≡ length o = omega arith in
-    put_fits v 0 o (omega arith)
-    ∙ ap (λ (t : List Float). t ++ drop (0 + length v) o) (take-length v)
-    ∙ ap (λ (n : ℕ). v ++ drop n o) n
-    ∙ ap (λ (t : List Float). v ++ t) (drop-length o)
-    ∙ append-nil v

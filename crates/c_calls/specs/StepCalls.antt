@@ -1,0 +1,47 @@
+-- What the calls of the whole step and of the limit of a pose step answer, and what the memory that they may
+-- write holds afterwards.
+use Rattle.std.specs.Prelude.{ℕ, ◌≡◌, ◌&&◌, List, [], ◌∷◌, length, Float, Ok}
+use Rattle.refusal.specs.Answer.{Answer, answer}
+use Rattle.refusal.specs.Refused.{map_ok}
+use Rattle.problem.specs.Problem.{Problem}
+use Rattle.optimizer.specs.PoseStep as PoseStep
+use Rattle.optimizer.specs.Step as Step
+use Rattle.optimizer.specs.declared.step_result.StepResult.{StepResult}
+use Rattle.numerics.specs.Vectors.{◌!◌}
+use Rattle.c_calls.specs.Answers.{code, where_fits, long}
+
+-- what it gives, the room apart: twelve numbers and the weak count
+abbrev pub step_numbers : StepResult → List Float
+step_numbers s =
+    let p = s.pose_step in
+    p ! 0 ∷ p ! 1 ∷ p ! 2 ∷ p ! 3 ∷ p ! 4 ∷ s.cost ∷ s.squared_residual ∷ s.gradient_norm ∷ s.minimum_point_rcond ∷ s.point_step_rms ∷ s.point_damping_norm ∷ s.predicted_reduction ∷ []
+
+abbrev pub step_count : StepResult → List ℕ
+step_count s = s.weak_point_count ∷ []
+
+-- the memory that a call of the whole step may write
+pub record StepMemory : Type 0 where
+  pub room : List Float
+  pub out : List Float
+  pub weak : List ℕ
+
+-- The number that comes back is the answer's, and the memory holds its values: the step's, and what it held
+-- before where the call is refused.
+pub record Stepped (number : ℕ) (room out : List Float) (weak : List ℕ) (a : Answer StepMemory) : Type 0 where
+  pub same_number : number ≡ code a.row
+  pub same_room : room ≡ a.values.room
+  pub same_out : out ≡ a.values.out
+  pub same_weak : weak ≡ a.values.weak
+
+-- memory that holds this result, and the step of each point
+abbrev pub holding : Problem → List Float → StepResult → StepMemory
+holding p room s = record { room = Step.written p (Ok s) room; out = step_numbers s; weak = step_count s }
+
+-- row 1 where the rig's length or that of the result's memory does not fit, then the step's own rows or its result
+unfoldable pub step : Problem → List Float → List Float → List Float → List ℕ → Answer StepMemory
+step p x room out weak =
+    answer (record { room = room; out = out; weak = weak })
+    (where_fits (long x 29 && long out 12 && long weak 1) (map_ok (holding p room) (Step.step p (length room))))
+
+unfoldable pub limit_pose_step : List Float → List Float → Answer (List Float)
+limit_pose_step x out = answer out (where_fits (long x 5 && long out 5) (Ok (PoseStep.limit_pose_step x)))
