@@ -11,9 +11,9 @@ use Rattle.point_block.specs.Factor.{factor_damped}
 use Rattle.point_block.specs.Condition.{infinity_norm, inverse_matrix, reciprocal_condition_number}
 use Rattle.point_block.specs.Lone as Lone
 use Rattle.optimizer.specs.PoseStep.{limit_pose_step}
-use Rattle.table.specs.Table.{Every, done, ◌and◌, table}
+use Rattle.figures.specs.Table.{done, ◌and◌, EveryFigureHolds}
 
-pub every_row_holds : Every table
+pub every_figure_holds : EveryFigureHolds
 unfolding neg add sub mul div lt eq le is_nan of_bits size units negative is_finite abs magnitude max sqrt in_front linearized all_finite pixel_projection largest_diagonal floored damping_diagonal added_diagonal damped_matrix scale_of cholesky_of good_pivots inverse_of invert factor_damped infinity_norm inverse_matrix reciprocal_condition_number Lone.factor good_damping Lone.lone_factor limit_pose_step
-every_row_holds =
+every_figure_holds =
     refl and refl and refl and refl and refl and refl and refl and refl and refl and refl and refl and refl and refl and refl and refl and refl and done

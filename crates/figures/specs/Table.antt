@@ -1,4 +1,4 @@
--- The figures that document 01 marks ●, as one table, and what a row of it says of the definitions that the contracts cite. `proofs/Table.antt` proves every row.
+-- The figures that document 01 marks ●, as one table, and what a row of it says of the definitions that the contracts cite. `table::every_figure_holds` promises every row.
 use Rattle.std.specs.Prelude.{ℕ, ◌≡◌, Bool, true, false, List, [], ◌∷◌, Float, Result, Ok, Err, is_ok}
 use Rattle.std.specs.Float.{binary64}
 use Rattle.std.specs.Float.Ieee.{of_bits}
@@ -105,3 +105,7 @@ infixr 60 ◌and◌
 pub data Every : List Row → Type 0 where
   done : Every []
   ◌and◌ : {r : Row} {rs : List Row} → Says r → Every rs → Every (r ∷ rs)
+
+-- every row of the table holds
+abbrev pub EveryFigureHolds : Type 0
+EveryFigureHolds = Every table

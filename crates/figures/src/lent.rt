@@ -1,6 +1,6 @@
-// The same blocks through both forms of `add`: the system lent and changed in place, and the system by value.
-// Each line has a figure of the one, then of the other, as patterns of sixteen capital digits: the two columns have to be equal.
-#![tactic(auto)]
+//! The same blocks through both forms of `add`: the system lent and changed in place, and the system by value.
+//! Each line has a figure of the one, then of the other, as patterns of sixteen capital digits: the two columns
+//! have to be equal.
 
 ghost use Rattle.std.specs.Prelude.{◌≡◌};
 ghost use Rattle.std.specs.Result.{result_err};
@@ -19,28 +19,32 @@ struct Both {
     by_value: ReducedSystem,
 }
 
-fn main(rt: HostRuntime) -> io::Result<()> {
+pub fn print(rt: &impl Print) -> io::Result<()> {
     let adds = [
-        (block(0.0, 0.0, 2.0), 0.0),
-        (block(1.0, 0.0, 2.0), 0.0),
-        (block(-1.0, 0.5, 4.0), 0.0),
-        (block(0.5, -1.0, 2.0), -1.0),
-        (block(0.5, -1.0, 2.0), 0.5),
-        (block(0.25, 0.25, 1.0), 0.0),
-        (block(1.0, 1.0, 8.0), 0.0),
+        ([0.0, 0.0, 2.0], 0.0),
+        ([1.0, 0.0, 2.0], 0.0),
+        ([-1.0, 0.5, 4.0], 0.0),
+        ([0.5, -1.0, 2.0], -1.0),
+        ([0.5, -1.0, 2.0], 0.5),
+        ([0.25, 0.25, 1.0], 0.0),
+        ([1.0, 1.0, 8.0], 0.0),
     ];
     let mut both = Both {
         lent: ReducedSystem::new(),
         by_value: ReducedSystem::new(),
     };
-    for (local, damping) in adds {
-        both = added(&rt, both, local, damping)?;
+    for (point, damping) in adds {
+        match block(point) {
+            Ok(local) => both = added(rt, both, local, damping)?,
+            Err(refusal) => println!(rt; "{refusal}")?,
+        }
     }
-    print(&rt, both)
+    print_both(rt, both)
 }
 
 // The block of a point before two cameras of which the second is turned about their common axis: on the axis no block factors.
-fn block(x: f64, y: f64, z: f64) -> LocalLinearization {
+fn block(point: [f64; 3]) -> Result<LocalLinearization, Refusal> {
+    let [x, y, z] = point;
     let camera = PinholeCamera {
         fx: 800.0,
         fy: 600.0,
@@ -55,7 +59,7 @@ fn block(x: f64, y: f64, z: f64) -> LocalLinearization {
         baseline: 0.25,
     };
     let correspondence = Correspondence {
-        point: [x, y, z],
+        point,
         view1: [320.0 + 800.0 * x / z, 240.5 + 600.0 * y / z],
         view2: [320.0 + 500.0 * x / z, 240.0 + 500.0 * y / z],
         inverse_deviation: 2.0,
@@ -65,7 +69,7 @@ fn block(x: f64, y: f64, z: f64) -> LocalLinearization {
         camera2: camera,
         pose,
     };
-    linearization::linearize_point(rig, correspondence).unwrap_or(linearization::NO_BLOCK)
+    linearization::linearize_point(rig, correspondence)
 }
 
 // A line: the two refusals' numbers, 0 where there is none
@@ -93,10 +97,13 @@ fn added_in_place(
 }
 
 fn row(refusal: Option<Refusal>) -> u64 {
-    refusal.map_or(0, |refusal| u64::from(refusal.row().number))
+    match refusal {
+        Some(refusal) => u64::from(refusal.row().number),
+        None => 0,
+    }
 }
 
-fn print(rt: &impl Print, both: Both) -> io::Result<()> {
+fn print_both(rt: &impl Print, both: Both) -> io::Result<()> {
     let a = both.lent;
     let b = both.by_value;
     hessians(rt, a, b)?;
