@@ -100,7 +100,6 @@ fn put_points(writer: &mut Writer, problem: &Problem)
 
 // How the block of a point factors, at the problem's damping
 fn letter_at(problem: &Problem, i: u32) -> u8
-    requires { Checks.check (Problems.of problem.now) ≡ Ok tt }
     ensures { let p = Problems.of problem.now in
         result ≡ Letters.letter (Assembly.block_at p i) p.damping }
 {
