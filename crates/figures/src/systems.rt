@@ -1,6 +1,7 @@
 // The figures of the block maker and of the system: document 01's sample, and its rows.
 use linearization::LocalLinearization;
 use linearization::views::{Correspondence, Pose, Rig};
+use point_block::point_damping::ValidDamping;
 use problem::letters;
 use program_io::show;
 use projection::PinholeCamera;
@@ -59,8 +60,10 @@ fn taken(
     system: ReducedSystem,
     block: LocalLinearization,
 ) -> io::Result<ReducedSystem> {
-    let letter = char::from(letters::letter(block, 0.0));
-    print!(rt; " {letter}")?;
+    if let Ok(damping) = ValidDamping::new(0.0) {
+        let letter = char::from(letters::letter(block, damping));
+        print!(rt; " {letter}")?;
+    }
     let added = schur::add(system, block, 0.0);
     end(rt, added.err())?;
     Ok(added.unwrap_or(system))
