@@ -1,6 +1,6 @@
-//! The same blocks through both forms of `add`: the system lent and changed in place, and the system by value.
-//! Each line has a figure of the one, then of the other, as patterns of sixteen capital digits: the two columns
-//! have to be equal.
+//! The same blocks through both forms of `add`: the system lent and changed in place, and the
+//! system by value. Each line has a figure of the one, then of the other, as patterns of sixteen
+//! capital digits: the two columns have to be equal.
 
 ghost use Rattle.std.specs.Prelude.{◌≡◌};
 ghost use Rattle.std.specs.Result.{result_err};

@@ -1,6 +1,6 @@
-//! Prints figures, each on a line of its own and worked out by the proved code: first the named ones, then
-//! the root of each pattern that standard input lists. What they have to be is in `stdout` beside this
-//! folder; `tools/root-vectors` says where the roots come from.
+//! Prints figures, each on a line of its own and worked out by the proved code: first the named
+//! ones, then the root of each pattern that standard input lists. What they have to be is in
+//! `stdout` beside this folder; `tools/root-vectors` says where the roots come from.
 #![tactic(auto)]
 
 mod blocks;

@@ -1,5 +1,5 @@
-//! Reads a run record from standard input and prints its list. A read that fails ends the program with
-//! its error, and nothing is printed.
+//! Reads a run record from standard input and prints its list. A read that fails ends the program
+//! with its error, and nothing is printed.
 #![tactic(auto)]
 
 use program_io::{lists, stored_file};

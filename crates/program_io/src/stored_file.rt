@@ -24,10 +24,12 @@ pub fn read(rt: &impl Files, name: &str, room: &mut [u8]) -> io::Result<usize>
 }
 
 /// Reads until `room` is full or the input has come to its end, and answers how many bytes it put at
-/// the start of `room`. A read that is interrupted is made again; any other error is the answer.
+/// the start of `room`. A read that is interrupted is made again, up to 2^64 reads in all; any other
+/// error is the answer.
 pub fn read_full<R: Read>(input: &mut R, room: &mut [u8]) -> io::Result<usize>
     ensures bound { ReadsAtMost result room.new }
-    ensures bytes { IfOk result (λ n. Consumes (R.remaining input.old) (R.remaining input.new) (take n room.new)) }
+    ensures bytes { IfOk result (λ n.
+        Consumes (R.remaining input.old) (R.remaining input.new) (take n room.new)) }
     ensures end { IfOk result (λ n. n < length room.new → IsAtEnd (R.remaining input.new)) }
     ensures error { IfErr result (λ e. error_kind e ≢ ErrorKind.Interrupted) }
 {

@@ -11,8 +11,8 @@ pub struct Case<'a> {
     answer: Answer<'a>,
 }
 
-/// The patterns of what a call gave, or its one number as an exact value, or its refusal by the numbers
-/// that stand in the line.
+/// The patterns of what a call gave, or its one number as an exact value, or its refusal by the
+/// numbers that stand in the line.
 #[derive(Clone, Copy)]
 enum Answer<'a> {
     Patterns(&'a str),
@@ -45,7 +45,8 @@ impl<'a> Case<'a> {
         matches!(self.answer, Answer::Refused { .. })
     }
 
-    /// Whether the stored answer is this one. Beside a refusal the lent memory has to be what it was.
+    /// Whether the stored answer is this one. Beside a refusal the lent memory has to be what it
+    /// was.
     pub fn agrees(&self, answered: &Answered, lengths: Lengths) -> bool {
         let code = answered.code;
         match self.answer {

@@ -1,5 +1,6 @@
-//! Replays stored answers: each line of data/NAME.txt is a call of the original Rust with its answer, and
-//! the proved call has to give the same, bit for bit; then the list of each stored run record.
+//! Replays stored answers: each line of data/NAME.txt is a call of the original Rust with its
+//! answer, and the proved call has to give the same, bit for bit; then the list of each stored run
+//! record.
 #![tactic(auto)]
 
 mod cases;

@@ -1,7 +1,7 @@
 //! Numbers by exact arithmetic, with no pattern read or written.
 
-/// The value that a text states: `nan`; or a sign, and behind it `inf` or a whole number below 2^53 and
-/// the power of two that it is multiplied by. None of a text out of form.
+/// The value that a text states: `nan`; or a sign, and behind it `inf` or a whole number below 2^53
+/// and the power of two that it is multiplied by. None of a text out of form.
 pub fn read(text: &str) -> Option<f64> {
     if text == "nan" {
         return Some(f64::NAN);
