@@ -1,7 +1,7 @@
 // The figures of the point block's factor and of the solve.
 use point_block::PointBlockFactor;
 use program_io::show;
-use std::{array, io};
+use std::io;
 
 pub fn print(rt: &impl Print) -> io::Result<()> {
     diagonal(rt, "block (4, 1, 1)", 4.0, 1.0, 1.0, 0.0)?;
@@ -39,7 +39,12 @@ fn diagonal(rt: &impl Print, name: &str, a: f64, b: f64, c: f64, damping: f64) -
 
 // The solution of (d times the identity) x = (1, 2, 3, 4, 5)
 fn solved(rt: &impl Print, name: &str, d: f64) -> io::Result<()> {
-    let a = array::from_fn(|i| if i % 6 == 0 { d } else { 0.0 });
+    let mut a = [0.0; 25];
+    a[0] = d;
+    a[6] = d;
+    a[12] = d;
+    a[18] = d;
+    a[24] = d;
     print!(rt; "{name}:")?;
     match solver::solve_positive_definite(a, [1.0, 2.0, 3.0, 4.0, 5.0]) {
         Ok(x) => show::patterns(rt, &x),

@@ -64,7 +64,8 @@ fn show_projected(
 ) -> io::Result<()> {
     match projected {
         Ok(p) => {
-            let [x, y] = p.residual.map(|r| numerics::to_bits(r));
+            let [x, y] = p.residual;
+            let (x, y) = (numerics::to_bits(x), numerics::to_bits(y));
             print!(rt; "{name}: residual {x:016X} {y:016X} jacobian")?;
             show::patterns(rt, &p.jacobian)
         }

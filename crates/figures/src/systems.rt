@@ -1,6 +1,7 @@
 // The figures of the block maker and of the system: document 01's sample, and its rows.
 use linearization::LocalLinearization;
 use linearization::views::{Correspondence, Pose, Rig};
+use point_block::point_damping::ValidDamping;
 use problem::letters;
 use program_io::show;
 use projection::PinholeCamera;
@@ -41,12 +42,34 @@ fn sample(rt: &impl Print) -> io::Result<()> {
     ];
     let mut system = ReducedSystem::new();
     for (index, (x, y, off)) in points.into_iter().enumerate() {
-        let block = seen(x, y, off);
-        let letter = char::from(letters::letter(block, 0.0));
-        println!(rt; "sample p {index} {letter}")?;
-        system = schur::add(system, block, 0.0).unwrap_or(system);
+        print!(rt; "sample p {index}")?;
+        match seen(x, y, off) {
+            Ok(block) => system = taken(rt, system, block)?,
+            Err(refusal) => println!(rt; " {refusal}")?,
+        }
     }
-    let last = system.finish_damping(0.0).unwrap_or(system);
+    match system.finish_damping(0.0) {
+        Ok(last) => sum(rt, last),
+        Err(refusal) => println!(rt; "sample sum {refusal}"),
+    }
+}
+
+// The end of a line: the block's letter. The system that the block is added to
+fn taken(
+    rt: &impl Print,
+    system: ReducedSystem,
+    block: LocalLinearization,
+) -> io::Result<ReducedSystem> {
+    if let Ok(damping) = ValidDamping::new(0.0) {
+        let letter = char::from(letters::letter(block, damping));
+        print!(rt; " {letter}")?;
+    }
+    let added = schur::add(system, block, 0.0);
+    end(rt, added.err())?;
+    Ok(added.unwrap_or(system))
+}
+
+fn sum(rt: &impl Print, last: ReducedSystem) -> io::Result<()> {
     let cost = numerics::to_bits(last.cost);
     let squared_residual = numerics::to_bits(last.squared_residual);
     let weak = last.weak_point_count;
@@ -55,7 +78,7 @@ fn sample(rt: &impl Print) -> io::Result<()> {
 }
 
 // The block of (x, y, 1), seen without error but for view 1, `off` too high
-fn seen(x: f64, y: f64, off: f64) -> LocalLinearization {
+fn seen(x: f64, y: f64, off: f64) -> Result<LocalLinearization, Refusal> {
     let camera = PinholeCamera {
         fx: 1.0,
         fy: 1.0,
@@ -80,15 +103,19 @@ fn seen(x: f64, y: f64, off: f64) -> LocalLinearization {
         camera2: camera,
         pose,
     };
-    linearization::linearize_point(rig, correspondence).unwrap_or(linearization::NO_BLOCK)
+    linearization::linearize_point(rig, correspondence)
 }
 
 // `add` on a system with these counts: its refusal, or the counts that it leaves
 fn counted(rt: &impl Print, name: &str, weak: u16, blocks: u16, damping: f64) -> io::Result<()> {
+    let block = match seen(1.0, 0.0, 0.0) {
+        Ok(block) => block,
+        Err(refusal) => return println!(rt; "{name}: {refusal}"),
+    };
     let mut system = ReducedSystem::new();
     system.weak_point_count = weak;
     system.block_count = blocks;
-    let added = schur::add(system, seen(1.0, 0.0, 0.0), damping);
+    let added = schur::add(system, block, damping);
     let next = added.unwrap_or(system);
     let (weak, blocks) = (next.weak_point_count, next.block_count);
     print!(rt; "{name}: {weak} {blocks}")?;
@@ -123,7 +150,8 @@ fn gradient_norm(rt: &impl Print, name: &str, gradient: f64, diagonal: f64) -> i
 
 // What damping adds where the pose has no curvature: 64ε × the smallest normal
 fn floored(rt: &impl Print) -> io::Result<()> {
-    let new = ReducedSystem::new();
-    let system = new.finish_damping(1.0).unwrap_or(new);
-    show::named(rt, "damping without curvature", system.hessian[24])
+    match ReducedSystem::new().finish_damping(1.0) {
+        Ok(system) => show::named(rt, "damping without curvature", system.hessian[24]),
+        Err(refusal) => println!(rt; "damping without curvature {refusal}"),
+    }
 }

@@ -1,13 +1,14 @@
-// Reads a run record from standard input and prints its list.
+//! Reads a run record from standard input and prints its list. A read that fails ends the program
+//! with its error, and nothing is printed.
 #![tactic(auto)]
 
-use program_io::stored_file;
+use program_io::{lists, stored_file};
 use run_list::record;
 use std::io;
 
 fn main(rt: HostRuntime) -> io::Result<()> {
     // one byte more than the longest record: more cannot change the list (`prefix_decides`)
-    let mut bytes = [0u8; record::MAX_RECORD + 1];
-    let n = stored_file::read_full(&mut rt.reader(), &mut bytes);
-    print_list::of(&rt, &bytes[..n])
+    let mut bytes = [0; record::MAX_RECORD + 1];
+    let n = stored_file::read_full(&mut rt.reader(), &mut bytes)?;
+    lists::print(&rt, &bytes[..n])
 }

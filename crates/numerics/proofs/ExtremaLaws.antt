@@ -5,7 +5,7 @@ use Prim.Native.Nat.{ℕ, ◌*◌}
 use native.Mathlib.Nat.{zero-mul}
 use lib.IntN.{pos}
 use lib.Dec.{T, eqb, eqb→eq}
-use lib.Ieee.{Float, nan, inf, fin, Format, binary64, up, down, fits, is_nan, lt, le, eq, level, of_bits, neg}
+use lib.Ieee.{Float, nan, inf, fin, Format, binary64, up, down, fits, is_nan, lt, eq, level, of_bits, neg}
 use lib.Ieee.Bits.{is_true, is_false}
 use lib.Ieee.Fits.{and_l, and_r, down_pos}
 use Rattle.std.specs.Bool.{beq}

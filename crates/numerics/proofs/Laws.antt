@@ -7,11 +7,9 @@ use Rattle.std.proofs.lemmas.Bool.{false_from_ne_true}
 use Rattle.std.proofs.lemmas.Float.{floats_per, le_of_not-lt, le_refl}
 use Rattle.std.proofs.lemmas.List.Sums.{fold-append}
 use borrow.Author.Numbers.{equal_no_nan, above_no_nan}
-use Prim.Native.Nat.{◌*◌}
-use lib.Dec.{T, eqb, eqb→eq}
-use lib.Ieee.{Float, nan, inf, fin, Format, binary64, up, down, lt, eq, le, fits, is_nan}
+use lib.Dec.{T}
+use lib.Ieee.{Float, Format, binary64, lt, eq, le, fits, is_nan}
 use lib.Ieee.Bits.{is_true, is_false}
-use lib.Ieee.Fits.{and_l, down_pos}
 use Rattle.numerics.specs.Binary64.{◌⊗◌, zero, epsilon64}
 use Rattle.numerics.specs.Parts.{negative, nonneg}
 use Rattle.numerics.proofs.ExtremaLaws.{eq_alike}

@@ -2,7 +2,6 @@
 -- Assumes nothing.
 use mathlib.Core.Path.{◌≡◌, refl, sym, subst}
 use mathlib.Core.Bool.{Bool, true, false, not, cond}
-use mathlib.Core.Logic.{◌⊎◌, inl, inr}
 use Prim.Native.Nat.{ℕ, zero, suc, ◌+◌, ◌*◌, ◌^◌}
 use lib.IntN.{ℤ, negsuc}
 use lib.Dec.{T, ltb, eqb, eqb-suc-zero}
@@ -11,7 +10,7 @@ use lib.Ieee.Bits.{is_true, is_false}
 use lib.Ieee.Fits.{round_is}
 pub use Rattle.std.proofs.lemmas.Float.{le_refl}
 use Rattle.std.proofs.lemmas.Bool.{false_from_ne_true}
-use Rattle.std.proofs.lemmas.Float.{lt_irrefl, lt_of_lt_of_le, le_of_lt, le_of_not-lt}
+use Rattle.std.proofs.lemmas.Float.{lt_irrefl, lt_of_lt_of_le, le_of_not-lt}
 use Rattle.numerics.specs.Binary64.{◌⊗◌, epsilon64, recip}
 use Rattle.numerics.specs.Parts.{is_finite, negative, nonneg}
 

@@ -1,14 +1,10 @@
 -- Bit patterns: a NaN's, and the sign's bit. Assumes nothing.
 use mathlib.Core.Path.{◌≡◌, refl, sym, ◌∙◌}
-use mathlib.Core.Bool.{true, false, not, false≢true}
+use mathlib.Core.Bool.{true, false≢true}
 use Prim.Native.Nat.{ℕ, ◌*◌, ◌%◌, ◌<◌}
-use native.Mathlib.Omega.{arith}
-use borrow.Author.Tests.{lt-ltb, le-leb, lt-leb}
-use lib.Dec.{T, leb}
-use lib.Ieee.{Float, nan, inf, fin, Format, binary64, neg, fits, is_nan, hid, ones, top, of_bits, to_bits}
-use lib.Ieee.Bits.{nan_bits_is, nan_bits_above, to_bits-lt}
-use lib.Ieee.Fits.{inf-fits, neg-fits}
-use Rattle.numerics.specs.Parts.{negative}
+use borrow.Author.Tests.{lt-ltb}
+use lib.Ieee.{Float, nan, inf, fin, Format, binary64, is_nan, hid, ones, top, of_bits, to_bits}
+use lib.Ieee.Bits.{nan_bits_is, nan_bits_above}
 
 -- the NaN by its pattern, and its pattern
 pub nan_of_pattern : of_bits binary64 0x7ff8_0000_0000_0000 ≡ nan

@@ -1,6 +1,6 @@
-// program_io.
+//! What the programs share: reading whole, and printing patterns.
 #![tactic(auto)]
 
-pub mod cases;
+pub mod lists;
 pub mod show;
 pub mod stored_file;

@@ -1,6 +1,7 @@
 -- The refusals by their numbers: a row, a view and an index, the last two 0 where they have no
 -- sense.
-use Rattle.std.specs.Prelude.{ℕ, Result, Ok, Err}
+use Rattle.std.specs.Prelude.{ℕ, List, ◌++◌, Result, Ok, Err, codes}
+use Rattle.std.specs.Fmt.{decimal}
 use Rattle.refusal.specs.Rows as Rows
 use Rattle.refusal.specs.declared.Row.{Row}
 use Rattle.refusal.specs.declared.View.{View}
@@ -37,6 +38,13 @@ row WeakCount = of Rows.weak_count
 row Full = of Rows.full
 row RecordTooLong = of Rows.record_too_long
 row (RecordForm i) = at Rows.record_form 0 i
+
+-- `refused`, the number, the view and the index
+abbrev pub text : Refusal → List ℕ
+text r =
+    let numbers = row r in
+    codes "refused " ++ decimal numbers.number ++ codes " " ++ decimal numbers.view ++ codes " "
+    ++ decimal numbers.index
 
 -- ---- answers
 

@@ -3,7 +3,7 @@
 //! stands beside a refusal.
 #![tactic(auto)]
 
-ghost use Rattle.std.specs.Prelude.{◌≡◌};
+ghost use Rattle.std.specs.Prelude.{◌≡◌, Some};
 ghost use Rattle.refusal.specs.Refused as Refused;
 
 use std::error::Error;
@@ -88,6 +88,8 @@ impl Refusal {
 
 /// Writes `refused`, the number, the view and the index.
 impl fmt::Display for Refusal {
+    ghost output = { λ refusal. Some (Refused.text refusal) };
+
     fn fmt<W: fmt::Write>(&self, f: &mut fmt::Formatter<W>) -> fmt::Result {
         let row = self.row();
         write!(f, "refused {} {} {}", row.number, row.view, row.index)

@@ -1,132 +1,164 @@
-// The files of stored answers, and what is written of each.
-use program_io::cases::Case;
+//! The files of stored answers, and what is written of each.
+
+use crate::cases::Case;
+use crate::matrices::Matrix;
+use crate::memory::{Inputs, Memory};
+use crate::numbers::Number;
+use crate::points::Point;
+use crate::steps::Step;
+use crate::systems::System;
 use program_io::stored_file;
 use std::io;
 use std::rt::Files;
 
-// A file has at most 300,000 bytes.
+/// A file has at most 300,000 bytes.
 pub const ROOM: usize = 300_001;
 
-// An array of numbers, of any length: a bound by `Fn` can name a type, and not a length
-pub(crate) trait Numbers: Copy {
-    fn zeros() -> Self;
-
-    fn inputs_of(case: Case) -> Option<Self>;
-
-    fn as_slice(&self) -> &[f64];
+/// A call that is replayed.
+#[derive(Clone, Copy)]
+pub enum Call {
+    Number(Number),
+    Matrix(Matrix),
+    Point(Point),
+    System(System),
+    Step(Step),
 }
 
-impl<const N: usize> Numbers for [f64; N] {
-    fn zeros() -> Self {
-        [0.0; N]
-    }
-
-    fn inputs_of(case: Case) -> Option<Self> {
-        case.inputs()
-    }
-
-    fn as_slice(&self) -> &[f64] {
-        self
-    }
+/// How many words a call's lines have before the answer, and how many numbers and counts it gives.
+#[derive(Clone, Copy)]
+pub struct Lengths {
+    pub inputs: usize,
+    pub numbers: usize,
+    pub counts: usize,
 }
 
-// Makes the call of each line of a file of stored answers: it gets the inputs and room for the outputs,
-// and answers its code. Counts pass as the numbers whose patterns they are.
-pub(crate) fn replay<I: Numbers, O: Numbers, F: Fn(&I, &mut O) -> u64>(
+/// What a call answered, and its lent memory before and after.
+#[derive(Clone, Copy)]
+pub struct Answered {
+    pub code: u64,
+    pub before: Memory,
+    pub after: Memory,
+}
+
+/// Makes the call of each line of a file, NAME.txt, and prints how many lines there are, how many
+/// refusals, and how many answers are not the stored ones, of which the first three are printed.
+pub fn replay(
     rt: &(impl Files + Print),
     room: &mut [u8],
     file: &str,
-    call: F,
-) -> io::Result<()>
-    requires { F.IsAlwaysCallable call }
-{
-    let n = match stored_file::read(rt, file.as_bytes(), room) {
-        Ok(n) => n,
-        Err(unread) => {
-            println!(rt; "{file} {unread}")?;
-            0
-        }
-    };
-    match str::from_utf8(&room[..n]) {
-        Ok(text) => lines(rt, file, text, &call),
-        Err(_) => println!(rt; "{file} is not text"),
-    }
-}
-
-fn lines<I: Numbers, O: Numbers, F: Fn(&I, &mut O) -> u64>(
-    rt: &impl Print,
-    file: &str,
-    text: &str,
-    call: &F,
-) -> io::Result<()>
-    requires { F.IsAlwaysCallable call.now }
-{
+    call: Call,
+    lengths: Lengths,
+) -> io::Result<()> {
     let name = file.strip_suffix(".txt").unwrap_or(file);
+    let text = text(rt, room, file)?;
+    let mut cases = 0u64;
+    let mut refused = 0u64;
     let mut differences = 0u64;
-    for (i, line) in text.lines().enumerate() {
-        let mut outputs = O::zeros();
-        let Err(difference) = outcome(line, &mut outputs, call) else {
+    for line in text.lines() {
+        cases = cases.saturating_add(1);
+        refused = refused.saturating_add(u64::from(is_refused(line)));
+        let Err(difference) = outcome(line, call, lengths) else {
             continue;
         };
         if differences < 3 {
-            let number = i.saturating_add(1);
-            print!(rt; "{name} line {number}")?;
-            difference.show(rt, outputs.as_slice())?;
+            print!(rt; "{name} line {cases}")?;
+            difference.show(rt, lengths)?;
         }
         differences = differences.saturating_add(1);
     }
-    let cases = text.lines().count();
-    let refused = text.lines().filter(|line| is_refused(line)).count();
     println!(rt; "{name} {cases} cases {refused} refused {differences} differences")
 }
 
-// How a line differs from what its call gave
-#[derive(Clone, Copy)]
-enum Difference {
-    OutOfForm,
-    Code(u64),
-}
-
-fn outcome<I: Numbers, O: Numbers, F: Fn(&I, &mut O) -> u64>(
-    line: &str,
-    outputs: &mut O,
-    call: &F,
-) -> Result<(), Difference>
-    requires { F.IsAlwaysCallable call.now }
-{
-    let case = Case::read(line).ok_or(Difference::OutOfForm)?;
-    let inputs = I::inputs_of(case).ok_or(Difference::OutOfForm)?;
-    let code = call(&inputs, outputs);
-    if case.agrees(code, outputs.as_slice()) {
-        Ok(())
-    } else {
-        Err(Difference::Code(code))
+/// The text of a file.
+pub fn text<'a>(rt: &impl Files, room: &'a mut [u8], file: &str) -> io::Result<&'a str> {
+    let n = stored_file::read(rt, file, room)?;
+    match str::from_utf8(&room[..n]) {
+        Ok(text) => Ok(text),
+        Err(_) => Err(io::ErrorKind::InvalidData.into()),
     }
 }
 
-impl Difference {
-    fn show(self, rt: &impl Print, outputs: &[f64]) -> io::Result<()> {
-        match self {
-            Difference::OutOfForm => println!(rt; " is out of form"),
-            Difference::Code(code) => {
-                print!(rt; " gave {code}")?;
-                program_io::show::patterns(rt, outputs)
-            }
-        }
+/// How a line differs from what its call gave.
+#[derive(Clone, Copy)]
+enum Difference {
+    OutOfForm,
+    Answer(Answered),
+}
+
+fn outcome(line: &str, call: Call, lengths: Lengths) -> Result<(), Difference> {
+    let case = Case::read(line).ok_or(Difference::OutOfForm)?;
+    let inputs = case.inputs(lengths.inputs).ok_or(Difference::OutOfForm)?;
+    let answered = call.made(&inputs);
+    if case.agrees(&answered, lengths) {
+        Ok(())
+    } else {
+        Err(Difference::Answer(answered))
     }
 }
 
 fn is_refused(line: &str) -> bool {
-    Case::read(line).is_some_and(|case| case.is_refused())
+    match Case::read(line) {
+        Some(case) => case.is_refused(),
+        None => false,
+    }
 }
 
-// A call that gives one number and never refuses
-pub fn give(value: f64, outputs: &mut [f64; 1]) -> u64 {
-    *outputs = [value];
-    0
+impl Call {
+    fn made(self, inputs: &Inputs) -> Answered {
+        let before = match self {
+            Call::System(call) => call.lent(inputs),
+            _ => Memory::filled(),
+        };
+        let Memory {
+            mut numbers,
+            mut counts,
+        } = before;
+        let x = &inputs.numbers;
+        let code = match self {
+            Call::Number(call) => call.make(x, &mut numbers),
+            Call::Matrix(call) => call.make(inputs, &mut numbers, &mut counts),
+            Call::Point(call) => call.make(x, &mut numbers),
+            Call::System(call) => call.make(inputs, &mut numbers, &mut counts),
+            Call::Step(call) => call.make(x, &mut numbers, &mut counts),
+        };
+        Answered {
+            code,
+            before,
+            after: Memory { numbers, counts },
+        }
+    }
 }
 
-// A count as a number
-pub fn pattern(count: u16) -> f64 {
-    numerics::from_bits(u64::from(count))
+impl Difference {
+    fn show(&self, rt: &impl Print, lengths: Lengths) -> io::Result<()> {
+        match self {
+            Difference::OutOfForm => println!(rt; " is out of form"),
+            Difference::Answer(answered) => answered.show(rt, lengths),
+        }
+    }
+}
+
+impl Answered {
+    // What the call gave, or beside a refusal which bits of the lent memory are not what they were
+    fn show(&self, rt: &impl Print, lengths: Lengths) -> io::Result<()> {
+        let code = self.code;
+        print!(rt; " gave {code}")?;
+        let numbers = self.after.numbers.iter().zip(&self.before.numbers);
+        for (x, was) in numbers.take(lengths.numbers) {
+            let mut pattern = numerics::to_bits(*x);
+            if code != 0 {
+                pattern ^= numerics::to_bits(*was);
+            }
+            print!(rt; " {pattern:016X}")?;
+        }
+        let counts = self.after.counts.iter().zip(&self.before.counts);
+        for (count, was) in counts.take(lengths.counts) {
+            let mut count = *count;
+            if code != 0 {
+                count ^= *was;
+            }
+            print!(rt; " {count:04X}")?;
+        }
+        println!(rt)
+    }
 }

@@ -1,13 +1,18 @@
-// Replays stored answers. Each line of data/NAME.txt is a call of the original Rust with its answer,
-// made by `oracle/compare --sample`; the proved call of the C interface has to give the same, bit for bit.
+//! Replays stored answers: each line of data/NAME.txt is a call of the original Rust with its
+//! answer, and the proved call has to give the same, bit for bit; then the list of each stored run
+//! record.
 #![tactic(auto)]
 
+mod cases;
 mod files;
 mod matrices;
+mod memory;
 mod numbers;
 mod points;
+mod records;
 mod steps;
 mod systems;
+mod values;
 
 use std::io;
 
@@ -17,5 +22,6 @@ fn main(rt: HostRuntime) -> io::Result<()> {
     matrices::replay(&rt, &mut room)?;
     points::replay(&rt, &mut room)?;
     systems::replay(&rt, &mut room)?;
-    steps::replay(&rt, &mut room)
+    steps::replay(&rt, &mut room)?;
+    records::replay(&rt, &mut room)
 }

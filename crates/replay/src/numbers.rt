@@ -1,47 +1,60 @@
-// The calls of `number`, `extrema` and `root`.
-use crate::files::{self, give};
+//! The functions on single numbers.
+
+use crate::files::{self, Call, Lengths};
 use numerics::extrema;
 use std::io;
 use std::rt::Files;
 
+#[derive(Clone, Copy)]
+pub enum Number {
+    Sqrt,
+    Abs,
+    Recip,
+    IsFinite,
+    Max,
+    Min,
+    ToBits,
+    FromBits,
+}
+
 pub fn replay(rt: &(impl Files + Print), room: &mut [u8]) -> io::Result<()> {
-    files::replay(rt, room, "sqrt.txt", |x: &[f64; 1], out: &mut [f64; 1]| {
-        give(root::sqrt(x[0]), out)
-    })?;
-    files::replay(rt, room, "abs.txt", |x: &[f64; 1], out: &mut [f64; 1]| {
-        give(numerics::abs(x[0]), out)
-    })?;
-    files::replay(rt, room, "recip.txt", |x: &[f64; 1], out: &mut [f64; 1]| {
-        give(numerics::recip(x[0]), out)
-    })?;
-    files::replay(
-        rt,
-        room,
-        "is_finite.txt",
-        |x: &[f64; 1], out: &mut [f64; 1]| {
-            let finite = numerics::is_finite(x[0]);
-            give(numerics::from_bits(u64::from(finite)), out)
-        },
-    )?;
-    files::replay(rt, room, "max.txt", |x: &[f64; 2], out: &mut [f64; 1]| {
-        give(extrema::max(x[0], x[1]), out)
-    })?;
-    files::replay(rt, room, "min.txt", |x: &[f64; 2], out: &mut [f64; 1]| {
-        give(extrema::min(x[0], x[1]), out)
-    })?;
-    files::replay(
-        rt,
-        room,
-        "to_bits.txt",
-        |x: &[f64; 1], out: &mut [f64; 1]| {
-            give(numerics::from_bits(numerics::to_bits(x[0])), out)
-        },
-    )?;
-    // The reader has called `from_bits` on each word.
-    files::replay(
-        rt,
-        room,
-        "from_bits.txt",
-        |x: &[f64; 1], out: &mut [f64; 1]| { give(x[0], out) },
-    )
+    let calls = [
+        ("sqrt.txt", Number::Sqrt, 1),
+        ("abs.txt", Number::Abs, 1),
+        ("recip.txt", Number::Recip, 1),
+        ("is_finite.txt", Number::IsFinite, 1),
+        ("max.txt", Number::Max, 2),
+        ("min.txt", Number::Min, 2),
+        ("to_bits.txt", Number::ToBits, 1),
+        ("from_bits.txt", Number::FromBits, 1),
+        ("faulty_value.txt", Number::FromBits, 1),
+    ];
+    for (file, call, inputs) in calls {
+        let lengths = Lengths {
+            inputs,
+            numbers: 1,
+            counts: 0,
+        };
+        files::replay(rt, room, file, Call::Number(call), lengths)?;
+    }
+    Ok(())
+}
+
+impl Number {
+    /// Answers 0, as none of these refuses.
+    pub fn make(self, x: &[f64; 108], out: &mut [f64; 59]) -> u64 {
+        out[0] = match self {
+            Number::Sqrt => root::sqrt(x[0]),
+            Number::Abs => numerics::abs(x[0]),
+            Number::Recip => numerics::recip(x[0]),
+            Number::IsFinite => numerics::from_bits(u64::from(numerics::is_finite(x[0]))),
+            Number::Max => extrema::max(x[0], x[1]),
+            Number::Min => extrema::min(x[0], x[1]),
+            // The comparison reads every answer by `to_bits`.
+            Number::ToBits => x[0],
+            // The line's reader made the number by `from_bits`.
+            Number::FromBits => x[0],
+        };
+        0
+    }
 }

@@ -1,32 +1,47 @@
-// The calls of `block_calls`.
-use crate::files;
+//! The calls on a point.
+
+use crate::files::{self, Call, Lengths};
 use c_calls::block_calls;
 use std::io;
 use std::rt::Files;
 
+#[derive(Clone, Copy)]
+pub enum Point {
+    Projection,
+    Linearization,
+    Step,
+}
+
 pub fn replay(rt: &(impl Files + Print), room: &mut [u8]) -> io::Result<()> {
-    files::replay(
-        rt,
-        room,
-        "pixel_projection.txt",
-        |x: &[f64; 10], out: &mut [f64; 8]| {
-            block_calls::pixel_projection(&x[..5], &x[5..7], &x[7..], out)
-        },
-    )?;
-    files::replay(
-        rt,
-        room,
-        "linearize_point.txt",
-        |x: &[f64; 37], out: &mut [f64; 59]| {
-            block_calls::linearize_point(&x[..29], &x[29..], out)
-        },
-    )?;
-    files::replay(
-        rt,
-        room,
-        "point_step_with_damping_norm.txt",
-        |x: &[f64; 65], out: &mut [f64; 4]| {
-            block_calls::point_step_with_damping_norm(&x[..59], x[59], &x[60..], out)
-        },
-    )
+    let calls = [
+        ("pixel_projection.txt", Point::Projection, 10, 8),
+        ("linearize_point.txt", Point::Linearization, 37, 59),
+        ("point_step_with_damping_norm.txt", Point::Step, 65, 4),
+    ];
+    for (file, call, inputs, numbers) in calls {
+        let lengths = Lengths {
+            inputs,
+            numbers,
+            counts: 0,
+        };
+        files::replay(rt, room, file, Call::Point(call), lengths)?;
+    }
+    Ok(())
+}
+
+impl Point {
+    pub fn make(self, x: &[f64; 108], out: &mut [f64; 59]) -> u64 {
+        match self {
+            Point::Projection => {
+                block_calls::pixel_projection(&x[..5], &x[5..7], &x[7..10], &mut out[..8])
+            }
+            Point::Linearization => block_calls::linearize_point(&x[..29], &x[29..37], out),
+            Point::Step => block_calls::point_step_with_damping_norm(
+                &x[..59],
+                x[59],
+                &x[60..65],
+                &mut out[..4],
+            ),
+        }
+    }
 }

@@ -1,36 +1,57 @@
-// The calls of `step_calls`; the whole step has five points.
-use crate::files::{self, pattern};
-use c_calls::{slices, step_calls};
+//! The whole step, of five points, and the limit of the pose step.
+
+use crate::files::{self, Call, Lengths};
+use c_calls::step_calls;
 use std::io;
 use std::rt::Files;
 
+#[derive(Clone, Copy)]
+pub enum Step {
+    Whole,
+    Limit,
+}
+
 pub fn replay(rt: &(impl Files + Print), room: &mut [u8]) -> io::Result<()> {
-    files::replay(rt, room, "step.txt", step)?;
+    let whole = Lengths {
+        inputs: 70,
+        numbers: 27,
+        counts: 1,
+    };
+    files::replay(rt, room, "step.txt", Call::Step(Step::Whole), whole)?;
+    let limit = Lengths {
+        inputs: 5,
+        numbers: 5,
+        counts: 0,
+    };
     files::replay(
         rt,
         room,
         "limit_pose_step.txt",
-        |x: &[f64; 5], out: &mut [f64; 5]| { step_calls::limit_pose_step(x, out) },
+        Call::Step(Step::Limit),
+        limit,
     )
 }
 
-fn step(x: &[f64; 70], out: &mut [f64; 28]) -> u64 {
-    let mut room = [0.0; 15];
-    let mut values = [0.0; 12];
-    let mut weak = [0; 1];
-    let code = step_calls::step(
+impl Step {
+    pub fn make(self, x: &[f64; 108], out: &mut [f64; 59], counts: &mut [u16; 3]) -> u64 {
+        match self {
+            Step::Whole => whole(x, out, counts),
+            Step::Limit => step_calls::limit_pose_step(&x[..5], &mut out[..5]),
+        }
+    }
+}
+
+fn whole(x: &[f64; 108], out: &mut [f64; 59], counts: &mut [u16; 3]) -> u64 {
+    let (room, values) = out.split_at_mut(15);
+    step_calls::step(
         &x[..15],
         &x[15..25],
         &x[25..35],
         &x[35..40],
         &x[40..69],
         x[69],
-        &mut room,
-        &mut values,
-        &mut weak,
-    );
-    slices::copy(&room, 0, out);
-    slices::copy(&values, 15, out);
-    slices::copy(&weak.map(pattern), 27, out);
-    code
+        room,
+        &mut values[..12],
+        &mut counts[..1],
+    )
 }

@@ -1,5 +1,5 @@
--- A number of 64 bits as sixteen capital hexadecimal digits, in ASCII, and what a digit stands for.
-use Rattle.std.specs.Prelude.{ℕ, ◌+◌, ◌-◌, ◌/◌, ◌%◌, ◌^◌, cond, List, [], ◌∷◌, leb, ltb}
+-- A number of 64 bits as sixteen capital hexadecimal digits, in ASCII.
+use Rattle.std.specs.Prelude.{ℕ, ◌+◌, ◌/◌, ◌%◌, ◌^◌, cond, List, [], ◌∷◌, ltb}
 
 -- the lowest digit of n: 0 to 9 are 48 to 57, and A to F are 65 to 70
 unfoldable pub digit : ℕ → ℕ
@@ -25,7 +25,3 @@ digits n =
     ∷ digit (n / 16)
     ∷ digit n
     ∷ []
-
--- what a byte stands for as a digit: 0 if it is none
-unfoldable pub value : ℕ → ℕ
-value b = cond (ltb b 48) 0 (cond (leb b 57) (b - 48) (cond (ltb b 65) 0 (cond (leb b 70) (b - 65 + 10) 0)))

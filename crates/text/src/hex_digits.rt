@@ -1,6 +1,6 @@
-// Numbers as capital hexadecimal digits, in ASCII, and back.
+//! Numbers as capital hexadecimal digits, in ASCII.
 
-ghost use Rattle.std.specs.Prelude.{◌<◌, ◌≡◌};
+ghost use Rattle.std.specs.Prelude.{◌≡◌};
 ghost use Rattle.text.specs.Hex as Hex;
 
 use std::array;
@@ -14,22 +14,9 @@ fn digit(n: u64) -> u8
     if d < 10 { b'0' + d } else { b'A' + (d - 10) }
 }
 
-// The sixteen digits of n, highest first
+/// The sixteen digits of n, highest first.
 pub fn digits(n: u64) -> [u8; 16]
     ensures { result ≡ Hex.digits n }
 {
     array::from_fn(|i| digit(n >> (60 - 4 * i)))
-}
-
-// What a digit stands for, and 0 for a byte that is none
-#[tactic(auto, unfolding(crate::specs::Hex::value))]
-pub fn value(digit: u8) -> u64
-    ensures value { result ≡ Hex.value digit }
-    ensures upper_bound { result < 16 }
-{
-    match digit {
-        b'0'..=b'9' => (digit - b'0') as u64,
-        b'A'..=b'F' => (digit - b'A' + 10) as u64,
-        _ => 0,
-    }
 }

@@ -1,4 +1,5 @@
-// Text in a lent buffer, and numbers as hexadecimal digits.
+//! Text in a lent buffer: `Writer` puts one text behind the other, as much of each as fits, and
+//! numbers in decimal; `hex_digits` has the digits of a number of 64 bits.
 #![tactic(auto)]
 
 pub mod hex_digits;

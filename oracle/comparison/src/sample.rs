@@ -1,5 +1,6 @@
 //! Text files of cases with the oracle's answers, one line each: the input's
-//! patterns, `=`, and the result's patterns or the refusal.
+//! patterns, `=`, and the result's patterns or the refusal. A number that is
+//! made of a pattern is written as its exact value instead.
 
 use std::collections::HashSet;
 use std::fs;
@@ -7,7 +8,7 @@ use std::path::Path;
 
 use oracle::flat;
 
-use crate::function::{Answer, Argument, Function};
+use crate::function::{Answer, Argument, Function, Kind};
 use crate::input::{Input, digits};
 use crate::run::text;
 use crate::tally::Tally;
@@ -141,8 +142,46 @@ fn line(function: &Function, input: &Input, answer: &Answer) -> String {
         .map(|(argument, entries)| digits(argument.kind, entries))
         .collect();
     words.push(String::from("="));
-    words.push(text(function, &one_nan(function, answer)));
+    words.push(match made_of_a_word(function, answer) {
+        Some(number) => format!("value {}", exact(number)),
+        None => text(function, &one_nan(function, answer)),
+    });
     words.join(" ") + "\n"
+}
+
+/// The number that the function makes of a word, if it is one that does: of its
+/// pattern, which is the word again, a reader would learn nothing.
+fn made_of_a_word(function: &Function, answer: &Answer) -> Option<f64> {
+    let kinds: Vec<_> = function.arguments.iter().map(|a| a.kind).collect();
+    match answer {
+        Answer::Result(lists) if kinds == [Kind::Word, Kind::Returned] => {
+            Some(f64::from_bits(lists[0][0]))
+        }
+        _ => None,
+    }
+}
+
+/// A number by its value, which arithmetic alone finds: `nan`, or a sign, and
+/// behind it `inf` or a whole number below 2^53 and the power of two that it is
+/// multiplied by.
+fn exact(number: f64) -> String {
+    if number.is_nan() {
+        return String::from("nan");
+    }
+    let sign = if number.is_sign_negative() { '-' } else { '+' };
+    let (mut size, mut power) = (number.abs(), 0);
+    if size.is_infinite() {
+        return format!("{sign} inf");
+    }
+    while size.fract() != 0.0 {
+        size *= 2.0;
+        power -= 1;
+    }
+    while size >= 9_007_199_254_740_992.0 {
+        size /= 2.0;
+        power += 1;
+    }
+    format!("{sign} {} {power}", size as u64)
 }
 
 /// The answer with one pattern for every NaN.
@@ -200,6 +239,10 @@ mod tests {
                     assert_eq!(refusal.split(' ').count(), 3);
                     continue;
                 }
+                if answer.starts_with("value ") {
+                    assert_eq!(function.name, "from_bits");
+                    continue;
+                }
                 let results = patterns(answer, &widths(Argument::is_written));
                 let nan = |bits: &u64| f64::from_bits(*bits).is_nan();
                 assert!(
@@ -210,6 +253,32 @@ mod tests {
                 );
             }
         }
+    }
+
+    #[test]
+    fn an_exact_value_is_the_number() {
+        let texts = [
+            1.0,
+            -1.5,
+            5e-324,
+            f64::MAX,
+            0.0,
+            -0.0,
+            f64::NAN,
+            -f64::INFINITY,
+        ]
+        .map(exact);
+        let expected = [
+            "+ 1 0",
+            "- 3 -1",
+            "+ 1 -1074",
+            "+ 9007199254740991 971",
+            "+ 0 0",
+            "- 0 0",
+            "nan",
+            "- inf",
+        ];
+        assert_eq!(texts, expected);
     }
 
     /// The words of a text, which have these widths.
