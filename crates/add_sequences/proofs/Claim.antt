@@ -223,7 +223,8 @@ module _ (d : Float) (good : T (good_damping d)) where
   abbrev weak_in : List LocalLinearization → ℕ
   weak_in bs = length (filter (λ b. not (factors d b)) bs) + length (filter (λ b. factors d b && small_rcond d b) bs)
 
-  -- What calls that take in the blocks bs make of s. The equations are those of any other system that had the same and adds only the blocks that factor.
+  -- What calls that take in the blocks bs make of s. The equations are those of any other system
+  -- that had the same and adds only the blocks that factor.
   record From (s end : ReducedSystem) (t : Tally) (bs : List LocalLinearization) : Type 0 where
     sound : Sound end
     tallied : tally_of end ≡ t

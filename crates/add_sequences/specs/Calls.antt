@@ -18,12 +18,13 @@ pub record Inputs : Type 0 where
   pub rig : Rig
   pub correspondence : Correspondence
 
--- what the block maker returns: the values of its `answer`, which are +0 everywhere beside a refusal
+-- what the block maker returns: the values of its `answer`, which are +0 everywhere beside a
+-- refusal
 abbrev pub made : Inputs → LocalLinearization
 made i = block_or_zeros (linearize_point i.rig i.correspondence)
 
--- A call brings a block that the block maker returned, from any inputs, and the list's damping or one
--- that is refused.
+-- A call brings a block that the block maker returned, from any inputs, and the list's damping or
+-- one that is refused.
 pub data Call : Type 0 where
   at_damping : Inputs → Call
   at_refused : Inputs → (damping : Float) → good_damping damping ≡ false → Call
@@ -34,7 +35,8 @@ abbrev pub added : Float → ReducedSystem → Call → Result ReducedSystem Ref
 added d s (at_damping i) = add s (made i) d
 added d s (at_refused i x h) = add s (made i) x
 
--- the system after one of them: the values of the call's `answer`, which beside a refusal are the system as it was
+-- the system after one of them: the values of the call's `answer`, which beside a refusal are the
+-- system as it was
 abbrev pub next : Float → ReducedSystem → Call → ReducedSystem
 next d s c = handed_back s (added d s c)
 

@@ -1,5 +1,5 @@
--- What holds of every list of calls of `add` from a new system, at a damping that is let through. One
--- record, with a field for each sentence.
+-- What holds of every list of calls of `add` from a new system, at a damping that is let through.
+-- One record, with a field for each sentence.
 use Rattle.std.specs.Prelude.{ℕ, ◌+◌, ◌≡◌, true, false, not, ◌&&◌, List, [], ◌∷◌, ◌++◌, map, fold, T, leb, length, Float, Result}
 use Rattle.std.specs.Result.{result_err}
 use Rattle.std.specs.Float.Ieee.{le}
@@ -15,7 +15,8 @@ use Rattle.schur.specs.Model.{new_system}
 use Rattle.schur.specs.System.{handed_back}
 use Rattle.add_sequences.specs.Calls.{Call, added, results, after, after_blocks, Tally, start, factors, small_rcond, at_zero, tally, refusals, blocks_in, all, filter}
 
--- each answer is what the definition of `add` gives for the call and the system that the call before left
+-- each answer is what the definition of `add` gives for the call and the system that the call
+-- before left
 abbrev pub CallByCall : Float → ReducedSystem → List Call → List (Result ReducedSystem Refusal) → Type 0
 CallByCall d s [] [] = Unit {0}
 CallByCall d s [] (r ∷ rs) = ⊥
@@ -26,7 +27,8 @@ abbrev pub final : ReducedSystem → List (Result ReducedSystem Refusal) → Red
 final s [] = s
 final s (r ∷ rs) = final (handed_back s r) rs
 
--- Any run of which each call meets the definition of `add` has the list's own figures. They are those of the blocks taken in, so that a refused call leaves no trace.
+-- Any run of which each call meets the definition of `add` has the list's own figures. They are
+-- those of the blocks taken in, so that a refused call leaves no trace.
 pub record Figures (d : Float) (calls : List Call) (ran : List (Result ReducedSystem Refusal)) : Type 0 where
   pub each : ran ≡ results d new_system calls
   pub last : final new_system ran ≡ after d new_system calls
@@ -38,8 +40,8 @@ pub record Tallied (d : Float) (calls : List Call) (t : Tally) : Type 0 where
   pub weak : (after d new_system calls).weak_point_count ≡ t.weak
   pub refused : map result_err (results d new_system calls) ≡ refusals d start calls
 
--- What every block taken in brings, one that does not factor too: t has s's own figures with those of
--- the blocks bs added one by one, and the largest of the point gradient norms.
+-- What every block taken in brings, one that does not factor too: t has s's own figures with those
+-- of the blocks bs added one by one, and the largest of the point gradient norms.
 pub record TakesInAll (s : ReducedSystem) (bs : List LocalLinearization) (t : ReducedSystem) : Type 0 where
   pub cost : t.cost ≡ fold (λ sum b. sum ⊕ b.cost) s.cost bs
   pub squared : t.squared_residual ≡ fold (λ sum b. sum ⊕ b.squared_residual) s.squared_residual bs

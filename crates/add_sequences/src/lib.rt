@@ -1,8 +1,8 @@
 // SPDX-FileCopyrightText: 2026 Pierre Moulon and OpenMVG Rust contributors
 // SPDX-License-Identifier: MIT OR Apache-2.0
 
-// Lists of calls of `add` of kernel/two_view/schur.rs: a new system takes blocks in, one after the other.
-// The call is `schur::add`; here is what holds of every list of them.
+// Lists of calls of `add` of kernel/two_view/schur.rs: a new system takes blocks in, one after the
+// other. The call is `schur::add`; here is what holds of every list of them.
 #![tactic(auto)]
 
 ghost use Rattle.add_sequences.specs.Claim as Claim;

@@ -1,4 +1,5 @@
--- A list of adds over the C interface reaches the system that `add` gives, call by call. Assumes nothing.
+-- A list of adds over the C interface reaches the system that `add` gives, call by call. Assumes
+-- nothing.
 use mathlib.Core.Path.{◌≡◌, refl, ap, ap₂, ◌∙◌, subst⁻¹}
 use mathlib.Core.Bool.{Bool, true, false, cond}
 use mathlib.Core.List.{List, [], ◌∷◌, map}
@@ -74,7 +75,8 @@ add_sized s b d k =
 
 -- ---- one call
 
--- what the call answers on memory that holds s: the answer of `add`, whose memory holds the system that it leaves
+-- what the call answers on memory that holds s: the answer of `add`, whose memory holds the system
+-- that it leaves
 abbrev held : ReducedSystem → Result ReducedSystem Refusal → Answer SystemMemory
 held s r = record { row = (answer new_system r).row; values = holding (handed_back s r) }
 

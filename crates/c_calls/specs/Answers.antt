@@ -9,8 +9,8 @@ use Rattle.refusal.specs.declared.Refusal.TheVariants.{Lengths}
 unfoldable pub code : Row → ℕ
 code r = r.number + 256 * r.view + 65536 * r.index
 
--- The number that comes back is the answer's, and `out` holds its values: those that the call gives, and
--- what `out` held before where the call is refused.
+-- The number that comes back is the answer's, and `out` holds its values: those that the call
+-- gives, and what `out` held before where the call is refused.
 pub record Answered {A : Type 0} (number : ℕ) (out : A) (a : Answer A) : Type 0 where
   pub same_number : number ≡ code a.row
   pub same_out : out ≡ a.values

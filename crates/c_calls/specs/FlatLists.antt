@@ -1,5 +1,5 @@
--- A list of adds over the C interface, each on the memory that the one before left: what stands there after
--- them, and the numbers that come back.
+-- A list of adds over the C interface, each on the memory that the one before left: what stands
+-- there after them, and the numbers that come back.
 use Rattle.std.specs.Prelude.{ℕ, ◌≡◌, List, [], ◌∷◌, map, T, length, Float, Result}
 use Rattle.refusal.specs.Answer.{Answer, answer}
 use Rattle.refusal.specs.declared.Refusal.{Refusal}
@@ -32,8 +32,8 @@ left d m (c ∷ cs) = left d (called d m c).values cs
 abbrev pub tallied : Tally → List ℕ
 tallied t = t.weak ∷ t.blocks ∷ flag t.flag ∷ []
 
--- From memory that the call for a new system wrote, the list reaches the system that the definition of `add`
--- gives from a new one, call by call, with the same refusals.
+-- From memory that the call for a new system wrote, the list reaches the system that the definition
+-- of `add` gives from a new one, call by call, with the same refusals.
 pub record Reaches (d : Float) (calls : List Call) (begun : Answer SystemMemory) : Type 0 where
   pub begins : code begun.row ≡ 0
   pub memory : left d begun.values calls ≡ holding (after d new_system calls)

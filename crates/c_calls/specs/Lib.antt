@@ -1,4 +1,5 @@
--- What the calls of the C interface answer, how structs are laid out as flat numbers, and a list of adds.
+-- What the calls of the C interface answer, how structs are laid out as flat numbers, and a list of
+-- adds.
 pub mod Slices
 pub mod Answers
 pub mod Flat

@@ -1,5 +1,5 @@
--- What the calls on matrices answer, and what the memory that they may write holds afterwards. A matrix is
--- given row by row, an inverse is packed.
+-- What the calls on matrices answer, and what the memory that they may write holds afterwards. A
+-- matrix is given row by row, an inverse is packed.
 use Rattle.std.specs.Prelude.{◌&&◌, cond, List, [], ◌∷◌, Float, Ok, Err}
 use Rattle.numerics.specs.Vectors.{◌!◌}
 use Rattle.refusal.specs.Answer.{Answer, answer}

@@ -1,5 +1,5 @@
--- What the calls of the whole step and of the limit of a pose step answer, and what the memory that they may
--- write holds afterwards.
+-- What the calls of the whole step and of the limit of a pose step answer, and what the memory that
+-- they may write holds afterwards.
 use Rattle.std.specs.Prelude.{ℕ, ◌≡◌, ◌&&◌, List, [], ◌∷◌, length, Float, Ok}
 use Rattle.refusal.specs.Answer.{Answer, answer}
 use Rattle.refusal.specs.Refused.{map_ok}
@@ -25,8 +25,8 @@ pub record StepMemory : Type 0 where
   pub out : List Float
   pub weak : List ℕ
 
--- The number that comes back is the answer's, and the memory holds its values: the step's, and what it held
--- before where the call is refused.
+-- The number that comes back is the answer's, and the memory holds its values: the step's, and what
+-- it held before where the call is refused.
 pub record Stepped (number : ℕ) (room out : List Float) (weak : List ℕ) (a : Answer StepMemory) : Type 0 where
   pub same_number : number ≡ code a.row
   pub same_room : room ≡ a.values.room
@@ -37,7 +37,8 @@ pub record Stepped (number : ℕ) (room out : List Float) (weak : List ℕ) (a :
 abbrev pub holding : Problem → List Float → StepResult → StepMemory
 holding p room s = record { room = Step.written p (Ok s) room; out = step_numbers s; weak = step_count s }
 
--- row 1 where the rig's length or that of the result's memory does not fit, then the step's own rows or its result
+-- row 1 where the rig's length or that of the result's memory does not fit, then the step's own
+-- rows or its result
 unfoldable pub step : Problem → List Float → List Float → List Float → List ℕ → Answer StepMemory
 step p x room out weak =
     answer (record { room = room; out = out; weak = weak })

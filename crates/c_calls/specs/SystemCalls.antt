@@ -1,5 +1,5 @@
--- What the calls on a lent system answer, and what its memory holds afterwards. A system is 45 numbers, and the
--- weak count, the block count and the flag.
+-- What the calls on a lent system answer, and what its memory holds afterwards. A system is 45
+-- numbers, and the weak count, the block count and the flag.
 use Rattle.std.specs.Prelude.{ℕ, ◌≡◌, ◌&&◌, List, [], ◌∷◌, Float, Result, Ok}
 use Rattle.refusal.specs.Answer.{Answer, answer}
 use Rattle.refusal.specs.Refused.{map_ok}
@@ -23,8 +23,8 @@ memory x counts = record { numbers = x; counts = counts }
 abbrev pub holding : ReducedSystem → SystemMemory
 holding s = memory (system_numbers s) (system_counts s)
 
--- The number that comes back is the answer's, and the memory holds its values: the next system, and what it
--- held before where the call is refused.
+-- The number that comes back is the answer's, and the memory holds its values: the next system, and
+-- what it held before where the call is refused.
 pub record Changed (number : ℕ) (numbers : List Float) (counts : List ℕ) (a : Answer SystemMemory) : Type 0 where
   pub same_number : number ≡ code a.row
   pub same_numbers : numbers ≡ a.values.numbers

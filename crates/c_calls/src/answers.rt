@@ -1,5 +1,5 @@
-// What the calls of the C interface answer: a refusal as one number, and the values in lent memory, which stays as it
-// was where the call is refused.
+// What the calls of the C interface answer: a refusal as one number, and the values in lent memory,
+// which stays as it was where the call is refused.
 
 ghost use Rattle.std.specs.Prelude.{◌≡◌, length};
 ghost use Rattle.refusal.specs.Answer as Answer;

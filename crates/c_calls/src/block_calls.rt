@@ -1,5 +1,5 @@
-// The calls of the C interface on a point, over lent slices: its projection, its block and how it moves. A block is 59 numbers.
-// `pixel_step` exports them.
+// The calls of the C interface on a point, over lent slices: its projection, its block and how it
+// moves. A block is 59 numbers. `pixel_step` exports them.
 
 ghost use Rattle.std.specs.Prelude.{◌≡◌};
 ghost use Rattle.c_calls.specs.Answers as Answers;
@@ -10,7 +10,8 @@ use projection::Projected;
 use schur::point_step;
 use schur::point_step::PointStep;
 
-// camera: fx, fy, cx, cy, skew; observation: 2; point: 3; out: residual 2, Jacobian 6
+/// The projection of a point. camera: fx, fy, cx, cy, skew; observation: 2; point: 3; out: residual
+/// 2, Jacobian 6
 #[tactic(auto, unfolding(crate::specs::PointCalls::pixel_projection))]
 pub fn pixel_projection(camera: &[f64], observation: &[f64], point: &[f64], out: &mut [f64]) -> u64
     ensures { Answers.Answered result out.new
@@ -27,7 +28,8 @@ pub fn pixel_projection(camera: &[f64], observation: &[f64], point: &[f64], out:
     answers::answer(projected.map(projection_numbers), out)
 }
 
-// rig: 29; correspondence: point, view 1, view 2, inverse deviation, 8; out: a block
+/// The block of a point. rig: 29; correspondence: point, view 1, view 2, inverse deviation, 8; out:
+/// a block
 #[tactic(auto, unfolding(crate::specs::PointCalls::linearize_point))]
 pub fn linearize_point(rig: &[f64], correspondence: &[f64], out: &mut [f64]) -> u64
     ensures { Answers.Answered result out.new
@@ -43,7 +45,7 @@ pub fn linearize_point(rig: &[f64], correspondence: &[f64], out: &mut [f64]) -> 
     answers::answer(block.map(flat::numbers::block_numbers), out)
 }
 
-// pose_step: 5; out: step 3, damping norm
+/// How a point moves with a step of the pose. pose_step: 5; out: step 3, damping norm
 #[tactic(auto, unfolding(crate::specs::PointCalls::point_step))]
 pub fn point_step_with_damping_norm(
     block: &[f64],

@@ -1,5 +1,5 @@
-// The calls of the C interface on matrices, over lent slices: the 3 by 3 point block and the 5 by 5 solve. A matrix is given row
-// by row, an inverse is 6 numbers, packed. `pixel_step` exports them.
+// The calls of the C interface on matrices, over lent slices: the 3 by 3 point block and the 5 by 5
+// solve. A matrix is given row by row, an inverse is 6 numbers, packed. `pixel_step` exports them.
 
 ghost use Rattle.std.specs.Prelude.{◌≡◌};
 ghost use Rattle.c_calls.specs.Answers as Answers;
@@ -9,7 +9,7 @@ use crate::{answers, slices};
 use point_block::point_damping::ValidDamping;
 use point_block::{LoneFactor, PointBlockFactor, point_damping};
 
-// out: 3
+/// The diagonal that the damping scales. out: 3
 #[tactic(auto, unfolding(crate::specs::MatrixCalls::damping_diagonal))]
 pub fn damping_diagonal(matrix: &[f64], out: &mut [f64]) -> u64
     ensures { Answers.Answered result out.new (Calls.damping_diagonal matrix.now out.old) }
@@ -20,7 +20,7 @@ pub fn damping_diagonal(matrix: &[f64], out: &mut [f64]) -> u64
     answers::answer(point_damping::damping_diagonal(slices::whole(matrix)), out)
 }
 
-// Tests row 3 before the matrix. out: 9
+/// The damped matrix. Tests row 3 before the matrix. out: 9
 #[tactic(auto, unfolding(crate::specs::MatrixCalls::damped_matrix))]
 pub fn damped_matrix(matrix: &[f64], damping: f64, out: &mut [f64]) -> u64
     ensures { Answers.Answered result out.new (Calls.damped_matrix matrix.now damping out.old) }
@@ -36,7 +36,7 @@ pub fn damped_matrix(matrix: &[f64], damping: f64, out: &mut [f64]) -> u64
     answers::answer(damped, out)
 }
 
-// matrix: damped already; out: 6
+/// The packed inverse. matrix: damped already; out: 6
 #[tactic(auto, unfolding(crate::specs::MatrixCalls::factor_damped))]
 pub fn factor_damped(matrix: &[f64], out: &mut [f64]) -> u64
     ensures { Answers.Answered result out.new (Calls.factor_damped matrix.now out.old) }
@@ -48,7 +48,7 @@ pub fn factor_damped(matrix: &[f64], out: &mut [f64]) -> u64
     answers::answer(factor.map(packed), out)
 }
 
-// The lone factor. out: inverse 6, rcond
+/// The lone factor. out: inverse 6, rcond
 #[tactic(auto, unfolding(crate::specs::MatrixCalls::lone_factor))]
 pub fn factor_new(matrix: &[f64], damping: f64, out: &mut [f64]) -> u64
     ensures { Answers.Answered result out.new (Calls.lone_factor matrix.now damping out.old) }
@@ -60,7 +60,7 @@ pub fn factor_new(matrix: &[f64], damping: f64, out: &mut [f64]) -> u64
     answers::answer(lone.map(factor_numbers), out)
 }
 
-// inverse: 6; x: 3; out: 3
+/// The inverse times a vector. inverse: 6; x: 3; out: 3
 #[tactic(auto, unfolding(crate::specs::MatrixCalls::factor_solve))]
 pub fn factor_solve(inverse: &[f64], x: &[f64], out: &mut [f64]) -> u64
     ensures { Answers.Answered result out.new (Calls.factor_solve inverse.now x.now out.old) }
@@ -74,7 +74,7 @@ pub fn factor_solve(inverse: &[f64], x: &[f64], out: &mut [f64]) -> u64
     answers::answer(Ok(factor.solve(slices::whole(x))), out)
 }
 
-// inverse: 6; matrix: 9; out: 1
+/// The reciprocal condition number. inverse: 6; matrix: 9; out: 1
 #[tactic(auto, unfolding(crate::specs::MatrixCalls::reciprocal_condition_number))]
 pub fn reciprocal_condition_number(inverse: &[f64], matrix: &[f64], out: &mut [f64]) -> u64
     ensures { Answers.Answered result out.new
@@ -90,7 +90,7 @@ pub fn reciprocal_condition_number(inverse: &[f64], matrix: &[f64], out: &mut [f
     answers::answer(Ok([rcond]), out)
 }
 
-// a: 25 numbers, row by row; b: 5; out: 5
+/// The solution of five equations. a: 25 numbers, row by row; b: 5; out: 5
 #[tactic(auto, unfolding(crate::specs::MatrixCalls::solve_positive_definite))]
 pub fn solve_positive_definite(a: &[f64], b: &[f64], out: &mut [f64]) -> u64
     ensures { Answers.Answered result out.new

@@ -1,5 +1,5 @@
-// The calls of the C interface for one whole step of the two-view problem, and the limit of the pose step: `pixel_step`
-// exports them.
+// The calls of the C interface for one whole step of the two-view problem, and the limit of the
+// pose step: `pixel_step` exports them.
 
 ghost use Rattle.std.specs.Prelude.{◌≡◌};
 ghost use Rattle.problem.specs.Problem as Problems;
@@ -11,8 +11,8 @@ use crate::{answers, flat, slices};
 use optimizer::{StepResult, pose_step};
 use problem::correspondences::Problem;
 
-// For n points: points and room 3n, views 2n each, inverse deviations n; rig: 29; out: 12; weak: 1.
-// C hands the lists over one by one.
+/// One whole step. For n points: points and room 3n, views 2n each, inverse deviations n; rig: 29;
+/// out: 12; weak: 1. C hands the lists over one by one.
 #[tactic(auto, unfolding(crate::specs::StepCalls::step, crate::specs::Answers::code))]
 pub fn step<'a>(
     points: &[f64],
@@ -49,7 +49,7 @@ pub fn step<'a>(
     0
 }
 
-// x: 5; out: 5
+/// The limited step. x: 5; out: 5
 #[tactic(auto, unfolding(crate::specs::StepCalls::limit_pose_step))]
 pub fn limit_pose_step(x: &[f64], out: &mut [f64]) -> u64
     ensures { Answers.Answered result out.new (Calls.limit_pose_step x.now out.old) }

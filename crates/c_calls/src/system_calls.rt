@@ -1,5 +1,5 @@
-// The calls of the C interface on a lent system: 45 numbers, and beside them the weak count, the block count and the flag.
-// `pixel_step` exports them.
+// The calls of the C interface on a lent system: 45 numbers, and beside them the weak count, the
+// block count and the flag. `pixel_step` exports them.
 
 ghost use Rattle.std.specs.Prelude.{[], ◌∷◌, ◌≡◌, length};
 ghost use Rattle.c_calls.specs.Answers as Answers;
@@ -10,6 +10,7 @@ use crate::{answers, flat, slices};
 use refusal::Refusal;
 use schur::reduced_system::ReducedSystem;
 
+/// A new system in lent memory
 #[tactic(auto, unfolding(crate::specs::SystemCalls::new_system))]
 pub fn system_new(system: &mut [f64], counts: &mut [u16]) -> u64
     ensures { Calls.Changed result system.new counts.new
@@ -21,6 +22,7 @@ pub fn system_new(system: &mut [f64], counts: &mut [u16]) -> u64
     answer(Ok(ReducedSystem::new()), system, counts)
 }
 
+/// The lent system with a block taken in
 #[tactic(auto, unfolding(crate::specs::SystemCalls::add))]
 pub fn system_add(system: &mut [f64], counts: &mut [u16], block: &[f64], damping: f64) -> u64
     ensures { Calls.Changed result system.new counts.new
@@ -34,6 +36,7 @@ pub fn system_add(system: &mut [f64], counts: &mut [u16], block: &[f64], damping
     answer(added, system, counts)
 }
 
+/// The lent system with the damping added to the diagonal of its pose
 #[tactic(auto, unfolding(crate::specs::SystemCalls::finish_damping))]
 pub fn system_finish_damping(system: &mut [f64], counts: &mut [u16], damping: f64) -> u64
     ensures { Calls.Changed result system.new counts.new
@@ -47,7 +50,7 @@ pub fn system_finish_damping(system: &mut [f64], counts: &mut [u16], damping: f6
     answer(finished, system, counts)
 }
 
-// out: 0 or 1
+/// Whether every block factored and the equations are finite. out: 0 or 1
 #[tactic(auto, unfolding(crate::specs::SystemCalls::is_valid, crate::specs::Answers::code))]
 pub fn system_is_valid(system: &[f64], counts: &[u16], out: &mut [u16]) -> u64
     ensures { Answers.Answered result out.new
@@ -61,7 +64,7 @@ pub fn system_is_valid(system: &[f64], counts: &[u16], out: &mut [u16]) -> u64
     0
 }
 
-// out: 1
+/// The largest scaled gradient entry of all points and of the pose. out: 1
 #[tactic(auto, unfolding(crate::specs::SystemCalls::gradient_inf_norm))]
 pub fn system_scaled_gradient_inf_norm(system: &[f64], counts: &[u16], out: &mut [f64]) -> u64
     ensures { Answers.Answered result out.new
@@ -74,7 +77,7 @@ pub fn system_scaled_gradient_inf_norm(system: &[f64], counts: &[u16], out: &mut
     answers::answer(Ok([s.scaled_gradient_inf_norm()]), out)
 }
 
-// step: 5; out: 1
+/// What a step of the pose is predicted to gain. step: 5; out: 1
 #[tactic(auto, unfolding(crate::specs::SystemCalls::predicted_reduction))]
 pub fn system_predicted_reduction(
     system: &[f64],

@@ -1,4 +1,6 @@
--- What the list's call of the C interface answers, and what the memory that it may write holds afterwards. The calls on matrices are in `matrix_calls`, those on a point in `block_calls`, those on a system in `system_calls`, and the whole step is in `step_calls`.
+-- What the list's call of the C interface answers, and what the memory that it may write holds
+-- afterwards. The calls on matrices are in `matrix_calls`, those on a point in `block_calls`, those
+-- on a system in `system_calls`, and the whole step is in `step_calls`.
 use Rattle.std.specs.Prelude.{ℕ, ◌≡◌, cond, List, leb, length}
 use Rattle.text.specs.Text.{pasted}
 use Rattle.run_list.specs.Lists.{list}

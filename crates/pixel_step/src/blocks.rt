@@ -4,7 +4,8 @@ ghost use Rattle.c_calls.specs.PointCalls as Calls;
 
 use c_calls::block_calls;
 
-// rig: 29; correspondence: point, view 1, view 2, inverse deviation, 8; out: a block
+/// The block of a point. rig: 29; correspondence: point, view 1, view 2, inverse deviation, 8; out:
+/// a block
 #[unsafe(no_mangle)]
 pub extern "C" fn pixel_step_linearize_point(
     rig: &[f64],
@@ -17,7 +18,7 @@ pub extern "C" fn pixel_step_linearize_point(
     block_calls::linearize_point(rig, correspondence, out)
 }
 
-// pose_step: 5; out: step 3, damping norm
+/// How a point moves with a step of the pose. pose_step: 5; out: step 3, damping norm
 #[unsafe(no_mangle)]
 pub extern "C" fn pixel_step_point_step_with_damping_norm(
     block: &[f64],

@@ -2,7 +2,8 @@
 // `include/pixel_step.h` declares them. A slice passes as a pointer and then a length.
 //
 // A call with an `out`, or with a system that it changes, answers 0 and writes its result there, or
-// answers a refusal as one number (number + 256 · view + 65,536 · index) and writes nothing. Lengths that do not fit are row 1.
+// answers a refusal as one number (number + 256 · view + 65,536 · index) and writes nothing.
+// Lengths that do not fit are row 1.
 #![tactic(auto)]
 
 pub mod blocks;

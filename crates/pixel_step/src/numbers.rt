@@ -9,6 +9,7 @@ ghost use Rattle.root.specs.Root as Root;
 
 use numerics::extrema;
 
+/// The root
 #[unsafe(no_mangle)]
 pub extern "C" fn pixel_step_sqrt(x: f64) -> f64
     ensures { result ≡ Root.sqrt x }
@@ -16,6 +17,7 @@ pub extern "C" fn pixel_step_sqrt(x: f64) -> f64
     root::sqrt(x)
 }
 
+/// The value without its sign
 #[unsafe(no_mangle)]
 pub extern "C" fn pixel_step_abs(x: f64) -> f64
     ensures { result ≡ Parts.abs x }
@@ -23,6 +25,7 @@ pub extern "C" fn pixel_step_abs(x: f64) -> f64
     numerics::abs(x)
 }
 
+/// Whether it is neither infinite nor a NaN
 #[unsafe(no_mangle)]
 pub extern "C" fn pixel_step_is_finite(x: f64) -> bool
     ensures { result ≡ Parts.is_finite x }
@@ -30,6 +33,7 @@ pub extern "C" fn pixel_step_is_finite(x: f64) -> bool
     numerics::is_finite(x)
 }
 
+/// 1 / x
 #[unsafe(no_mangle)]
 pub extern "C" fn pixel_step_recip(x: f64) -> f64
     ensures { result ≡ Binary64.recip x }
@@ -37,6 +41,7 @@ pub extern "C" fn pixel_step_recip(x: f64) -> f64
     numerics::recip(x)
 }
 
+/// The larger one; a NaN is passed over
 #[unsafe(no_mangle)]
 pub extern "C" fn pixel_step_max(x: f64, y: f64) -> f64
     ensures { result ≡ Extrema.max x y }
@@ -44,6 +49,7 @@ pub extern "C" fn pixel_step_max(x: f64, y: f64) -> f64
     extrema::max(x, y)
 }
 
+/// The smaller one; a NaN is passed over
 #[unsafe(no_mangle)]
 pub extern "C" fn pixel_step_min(x: f64, y: f64) -> f64
     ensures { result ≡ Extrema.min x y }
@@ -51,6 +57,7 @@ pub extern "C" fn pixel_step_min(x: f64, y: f64) -> f64
     extrema::min(x, y)
 }
 
+/// The pattern of the number
 #[unsafe(no_mangle)]
 pub extern "C" fn pixel_step_to_bits(x: f64) -> u64
     ensures { result ≡ Ieee.to_bits binary64 x }
@@ -58,6 +65,7 @@ pub extern "C" fn pixel_step_to_bits(x: f64) -> u64
     numerics::to_bits(x)
 }
 
+/// The number of the pattern
 #[unsafe(no_mangle)]
 pub extern "C" fn pixel_step_from_bits(b: u64) -> f64
     ensures { result ≡ Ieee.of_bits binary64 b }

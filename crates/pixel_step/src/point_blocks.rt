@@ -4,7 +4,7 @@ ghost use Rattle.c_calls.specs.MatrixCalls as Calls;
 
 use c_calls::matrix_calls;
 
-// out: 3
+/// The diagonal that the damping scales. out: 3
 #[unsafe(no_mangle)]
 pub extern "C" fn pixel_step_damping_diagonal(matrix: &[f64], out: &mut [f64]) -> u64
     ensures { Answers.Answered result out.new (Calls.damping_diagonal matrix.now out.old) }
@@ -12,7 +12,7 @@ pub extern "C" fn pixel_step_damping_diagonal(matrix: &[f64], out: &mut [f64]) -
     matrix_calls::damping_diagonal(matrix, out)
 }
 
-// out: 9
+/// The damped matrix. out: 9
 #[unsafe(no_mangle)]
 pub extern "C" fn pixel_step_damped_matrix(matrix: &[f64], damping: f64, out: &mut [f64]) -> u64
     ensures { Answers.Answered result out.new (Calls.damped_matrix matrix.now damping out.old) }
@@ -20,7 +20,7 @@ pub extern "C" fn pixel_step_damped_matrix(matrix: &[f64], damping: f64, out: &m
     matrix_calls::damped_matrix(matrix, damping, out)
 }
 
-// matrix: damped already; out: 6
+/// The packed inverse. matrix: damped already; out: 6
 #[unsafe(no_mangle)]
 pub extern "C" fn pixel_step_factor_damped(matrix: &[f64], out: &mut [f64]) -> u64
     ensures { Answers.Answered result out.new (Calls.factor_damped matrix.now out.old) }
@@ -28,7 +28,7 @@ pub extern "C" fn pixel_step_factor_damped(matrix: &[f64], out: &mut [f64]) -> u
     matrix_calls::factor_damped(matrix, out)
 }
 
-// The lone factor. out: inverse 6, rcond
+/// The lone factor. out: inverse 6, rcond
 #[unsafe(no_mangle)]
 pub extern "C" fn pixel_step_factor_new(matrix: &[f64], damping: f64, out: &mut [f64]) -> u64
     ensures { Answers.Answered result out.new (Calls.lone_factor matrix.now damping out.old) }
@@ -36,7 +36,7 @@ pub extern "C" fn pixel_step_factor_new(matrix: &[f64], damping: f64, out: &mut 
     matrix_calls::factor_new(matrix, damping, out)
 }
 
-// inverse: 6; x: 3; out: 3
+/// The inverse times a vector. inverse: 6; x: 3; out: 3
 #[unsafe(no_mangle)]
 pub extern "C" fn pixel_step_factor_solve(inverse: &[f64], x: &[f64], out: &mut [f64]) -> u64
     ensures { Answers.Answered result out.new (Calls.factor_solve inverse.now x.now out.old) }
@@ -44,7 +44,7 @@ pub extern "C" fn pixel_step_factor_solve(inverse: &[f64], x: &[f64], out: &mut 
     matrix_calls::factor_solve(inverse, x, out)
 }
 
-// inverse: 6; matrix: 9; out: 1
+/// The reciprocal condition number. inverse: 6; matrix: 9; out: 1
 #[unsafe(no_mangle)]
 pub extern "C" fn pixel_step_reciprocal_condition_number(
     inverse: &[f64],

@@ -4,7 +4,8 @@ ghost use Rattle.c_calls.specs.PointCalls as Calls;
 
 use c_calls::block_calls;
 
-// camera: fx, fy, cx, cy, skew; observation: 2; point: 3; out: residual 2, Jacobian 6
+/// The projection of a point. camera: fx, fy, cx, cy, skew; observation: 2; point: 3; out: residual
+/// 2, Jacobian 6
 #[unsafe(no_mangle)]
 pub extern "C" fn pixel_step_pixel_projection(
     camera: &[f64],

@@ -4,7 +4,7 @@ ghost use Rattle.c_calls.specs.MatrixCalls as Calls;
 
 use c_calls::matrix_calls;
 
-// a: 25 numbers, row by row; b: 5; out: 5
+/// The solution of five equations. a: 25 numbers, row by row; b: 5; out: 5
 #[unsafe(no_mangle)]
 pub extern "C" fn pixel_step_solve_positive_definite(a: &[f64], b: &[f64], out: &mut [f64]) -> u64
     ensures { Answers.Answered result out.new

@@ -6,7 +6,8 @@ ghost use Rattle.c_calls.specs.StepCalls as Calls;
 
 use c_calls::step_calls;
 
-// For n points: points and room 3n, views 2n each, inverse deviations n; rig: 29; out: 12; weak: 1
+/// One whole step. For n points: points and room 3n, views 2n each, inverse deviations n; rig: 29;
+/// out: 12; weak: 1
 #[unsafe(no_mangle)]
 pub extern "C" fn pixel_step_step<'a>(
     points: &[f64],
@@ -36,7 +37,7 @@ pub extern "C" fn pixel_step_step<'a>(
     )
 }
 
-// x: 5; out: 5
+/// The limited step. x: 5; out: 5
 #[unsafe(no_mangle)]
 pub extern "C" fn pixel_step_limit_pose_step(x: &[f64], out: &mut [f64]) -> u64
     ensures { Answers.Answered result out.new (Calls.limit_pose_step x.now out.old) }

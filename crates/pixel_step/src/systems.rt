@@ -4,6 +4,7 @@ ghost use Rattle.c_calls.specs.SystemCalls as Calls;
 
 use c_calls::system_calls;
 
+/// A new system in lent memory
 #[unsafe(no_mangle)]
 pub extern "C" fn pixel_step_system_new(system: &mut [f64], counts: &mut [u16]) -> u64
     ensures { Calls.Changed result system.new counts.new
@@ -12,6 +13,7 @@ pub extern "C" fn pixel_step_system_new(system: &mut [f64], counts: &mut [u16]) 
     system_calls::system_new(system, counts)
 }
 
+/// The lent system with a block taken in
 #[unsafe(no_mangle)]
 pub extern "C" fn pixel_step_system_add(
     system: &mut [f64],
@@ -25,6 +27,7 @@ pub extern "C" fn pixel_step_system_add(
     system_calls::system_add(system, counts, block, damping)
 }
 
+/// The lent system with the damping added to the diagonal of its pose
 #[unsafe(no_mangle)]
 pub extern "C" fn pixel_step_system_finish_damping(
     system: &mut [f64],
@@ -37,7 +40,7 @@ pub extern "C" fn pixel_step_system_finish_damping(
     system_calls::system_finish_damping(system, counts, damping)
 }
 
-// out: 0 or 1
+/// Whether every block factored and the equations are finite. out: 0 or 1
 #[unsafe(no_mangle)]
 pub extern "C" fn pixel_step_system_is_valid(system: &[f64], counts: &[u16], out: &mut [u16]) -> u64
     ensures { Answers.Answered result out.new
@@ -46,7 +49,7 @@ pub extern "C" fn pixel_step_system_is_valid(system: &[f64], counts: &[u16], out
     system_calls::system_is_valid(system, counts, out)
 }
 
-// out: 1
+/// The largest scaled gradient entry of all points and of the pose. out: 1
 #[unsafe(no_mangle)]
 pub extern "C" fn pixel_step_system_scaled_gradient_inf_norm(
     system: &[f64],
@@ -59,7 +62,7 @@ pub extern "C" fn pixel_step_system_scaled_gradient_inf_norm(
     system_calls::system_scaled_gradient_inf_norm(system, counts, out)
 }
 
-// step: 5; out: 1
+/// What a step of the pose is predicted to gain. step: 5; out: 1
 #[unsafe(no_mangle)]
 pub extern "C" fn pixel_step_system_predicted_reduction(
     system: &[f64],
