@@ -9,3 +9,4 @@ pub mod PointCalls
 pub mod SystemCalls
 pub mod StepCalls
 pub mod FlatLists
+pub mod Zeros

@@ -14,4 +14,4 @@ mod slices;
 pub mod step_calls;
 pub mod system_calls;
 
-pub use flat_lists::every_list_over_c;
+pub use flat_lists::{every_list_over_c, every_number_beside_a_refusal_is_zero};

@@ -30,8 +30,7 @@ pub fn damped_matrix(matrix: &[f64], damping: f64, out: &mut [f64]) -> u64
     }
     let matrix = slices::whole(matrix);
     let damped = ValidDamping::new(damping).and_then(|damping| point_damping::damped_matrix(
-        matrix,
-        damping.value(),
+        matrix, damping,
     ));
     answers::answer(damped, out)
 }

@@ -1,4 +1,5 @@
--- The figures that document 01 marks ●, as one table, and what a row of it says of the definitions that the contracts cite. `table::every_figure_holds` promises every row.
+-- The figures that document 01 marks ●, as one table, and what a row of it says of the
+-- definitions that the contracts cite. `table::every_figure_holds` promises every row.
 use Rattle.std.specs.Prelude.{ℕ, ◌≡◌, Bool, true, false, List, [], ◌∷◌, Float, Result, Ok, Err, is_ok}
 use Rattle.std.specs.Float.{binary64}
 use Rattle.std.specs.Float.Ieee.{of_bits}
@@ -71,7 +72,8 @@ table =
     ∷ root (bits 0x4000_0000_0000_0000) (bits 0x3ff6_a09e_667f_3bcd)
     -- root of −0 is −0
     ∷ root neg_zero neg_zero
-    -- camera (2, 2, 1, 1, 0), observation (1.5, 1), point (1, 2, 4): residual (0, 1), Jacobian rows (0.5, 0, −0.125), (0, 0.5, −0.25)
+    -- camera (2, 2, 1, 1, 0), observation (1.5, 1), point (1, 2, 4): residual (0, 1),
+    -- Jacobian rows (0.5, 0, −0.125), (0, 0.5, −0.25)
     ∷ projected (camera (bits 0x4000_0000_0000_0000) (bits 0x4000_0000_0000_0000) one one zero)
     (bits 0x3ff8_0000_0000_0000 ∷ one ∷ [])
     (one ∷ bits 0x4000_0000_0000_0000 ∷ bits 0x4010_0000_0000_0000 ∷ [])

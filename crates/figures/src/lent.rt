@@ -42,7 +42,8 @@ pub fn print(rt: &impl Print) -> io::Result<()> {
     print_both(rt, both)
 }
 
-// The block of a point before two cameras of which the second is turned about their common axis: on the axis no block factors.
+// The block of a point before two cameras of which the second is turned about their common axis:
+// on the axis no block factors.
 fn block(point: [f64; 3]) -> Result<LocalLinearization, Refusal> {
     let [x, y, z] = point;
     let camera = PinholeCamera {

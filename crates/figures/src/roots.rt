@@ -1,7 +1,8 @@
 // The root vectors.
 use std::io;
 
-// A line for each line of text: `sqrt`, the pattern that the line is in hexadecimal, and the pattern of its root
+// A line for each line of text: `sqrt`, the pattern that the line is in hexadecimal, and the
+// pattern of its root
 pub fn print(rt: &impl Print, text: &str) -> io::Result<()> {
     for line in text.lines() {
         match u64::from_str_radix(line, 16) {

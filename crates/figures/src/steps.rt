@@ -1,4 +1,5 @@
-// The figures of the whole step: the limit of the pose step, an example of each row, and any two rows that follow
+// The figures of the whole step: the limit of the pose step, an example of each row, and any two
+// rows that follow
 // each other met at once, where the earlier one is given.
 ghost use Rattle.std.specs.Prelude.{◌≤◌};
 

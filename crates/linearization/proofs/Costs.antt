@@ -1,4 +1,5 @@
--- The cost and the squared residual of every made block, and of the block that is +0 everywhere, are numbers not below zero. Assumes nothing.
+-- The cost and the squared residual of every made block, and of the block that is +0 everywhere,
+-- are numbers not below zero. Assumes nothing.
 use mathlib.Core.Path.{◌≡◌, refl, subst}
 use mathlib.Core.Bool.{Bool, true, false, not, ◌&&◌, cond}
 use mathlib.Core.List.{List, [], ◌∷◌}

@@ -1,4 +1,5 @@
--- `LocalLinearization::accumulate` of schur.rs: each entry is a sum of four products of the weighted rows, from +0, view 1 before view 2 and the first residual before the second.
+-- `LocalLinearization::accumulate` of schur.rs: each entry is a sum of four products of the
+-- weighted rows, from +0, view 1 before view 2 and the first residual before the second.
 use Rattle.std.specs.Prelude.{ℕ, ◌+◌, ◌/◌, ◌%◌, List, [], ◌∷◌, Float}
 use Rattle.numerics.specs.Binary64.{◌⊕◌, ◌⊗◌, zero}
 use Rattle.numerics.specs.Vectors.{◌!◌, tabulate}

@@ -1,4 +1,5 @@
--- `linearize_point` of schur.rs with `Loss::L2`, the block maker of document 01: both views or their refusal, then the block.
+-- `linearize_point` of schur.rs with `Loss::L2`, the block maker of document 01: both views or
+-- their refusal, then the block.
 use Rattle.std.specs.Prelude.{List, Float, Result, Ok}
 use Rattle.std.specs.Result.{result_and}
 use Rattle.numerics.specs.Binary64.{◌⊕◌, ◌⊗◌, zero}

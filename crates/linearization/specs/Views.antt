@@ -1,4 +1,5 @@
--- The two views of a point in `linearize_point` of schur.rs: row 4, then row 9 with view 1 or 2, then the weighted rows of each view.
+-- The two views of a point in `linearize_point` of schur.rs: row 4, then row 9 with view 1 or 2,
+-- then the weighted rows of each view.
 use Rattle.std.specs.Prelude.{ℕ, Bool, not, ◌&&◌, List, [], ◌∷◌, Float, Result, Ok, is_ok}
 use Rattle.std.specs.Result.{result_and}
 use Rattle.std.specs.Float.Ieee.{le}
@@ -29,7 +30,8 @@ good_deviation x = is_finite x && not (le x zero)
 abbrev pub weighted : ℕ → Float → List Float → List Float
 weighted n weight l = tabulate n (λ i. weight ⊗ l ! i)
 
--- view 1: the pose's derivatives are zeros, each times the weight, and the point's are scaled by the baseline
+-- view 1: the pose's derivatives are zeros, each times the weight, and the point's are scaled by
+-- the baseline
 unfoldable pub first_view : List Float → List Float → Float → Float → View1
 first_view residual jacobian baseline weight = record {
   residual = weighted 2 weight residual;

@@ -1,7 +1,8 @@
 // SPDX-FileCopyrightText: 2026 Pierre Moulon and OpenMVG Rust contributors
 // SPDX-License-Identifier: MIT OR Apache-2.0
 
-// The block maker of the two-view problem, `linearize_point` of kernel/two_view/schur.rs: both views of a
+// The block maker of the two-view problem, `linearize_point` of kernel/two_view/schur.rs: both
+// views of a
 // point (`views`), and the sums of products of their derivatives and residuals that make its block.
 #![tactic(auto)]
 

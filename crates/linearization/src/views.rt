@@ -106,7 +106,8 @@ pub(crate) fn linearize_views(
     Ok(weighted_views(first, second, rotated, pose, inverse_deviation))
 }
 
-/// Both views by the formulas alone, for a correspondence that rows 4 and 9 are known to let through
+/// Both views by the formulas alone, for a correspondence that rows 4 and 9 are known to let
+/// through
 #[tactic(auto, unfolding(crate::specs::Views::views_of))]
 pub(crate) fn views_of(rig: &Rig, correspondence: Correspondence) -> LinearizedViews
     ensures { result ≡ Views.views_of rig.now correspondence }

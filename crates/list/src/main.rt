@@ -7,7 +7,8 @@ use run_list::record;
 use std::io;
 
 fn main(rt: HostRuntime) -> io::Result<()> {
-    // one byte more than the longest record: more cannot change the list (`run_list::list_is_decided_by_a_prefix`)
+    // one byte more than the longest record: more cannot change the list
+    // (`run_list::list_is_decided_by_a_prefix`)
     let mut bytes = [0; record::MAX_RECORD + 1];
     let n = stored_file::read_full(&mut rt.reader(), &mut bytes)?;
     lists::print(&rt, &bytes[..n])

@@ -1,4 +1,5 @@
--- The absolute value by a difference from 0, and the library's test for a finite value. Assumes nothing.
+-- The absolute value by a difference from 0, and the library's test for a finite value. Assumes
+-- nothing.
 use mathlib.Core.Path.{◌≡◌, refl}
 use mathlib.Core.Bool.{true, false, true≢false, false≢true}
 use Prim.Native.Nat.{ℕ, ◌+◌, ◌-◌, ◌*◌, ◌≤◌}

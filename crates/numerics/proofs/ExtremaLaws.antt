@@ -1,4 +1,5 @@
--- What the standard says of the larger and the smaller of two values that binary64 holds, for each of its cases. Assumes nothing.
+-- What the standard says of the larger and the smaller of two values that binary64 holds, for
+-- each of its cases. Assumes nothing.
 use mathlib.Core.Path.{◌≡◌, refl, sym, ap, subst, ◌∙◌}
 use mathlib.Core.Bool.{Bool, true, false, not, ◌&&◌, ◌||◌, cond, true≢false, false≢true}
 use Prim.Native.Nat.{ℕ, ◌*◌}
@@ -99,7 +100,8 @@ flip true false u = refl
 flip false true u = refl
 flip false false u = absurd (false≢true u)
 
--- of two zeros the one with the sign wanted is the first where it has that sign, and the second where the first has the other one
+-- of two zeros the one with the sign wanted is the first where it has that sign, and the second
+-- where the first has the other one
 zero_of : (f : Format) (x y : Float) (wanted sign : Bool) → (T sign → negative x ≡ wanted) → (T (not sign) → negative x ≡ not wanted) → T (fits f x) → T (fits f y)
     → T (eq x y) → negative x ≡ not (negative y) → cond sign x y ≡ fin wanted 0 (pos 0)
 zero_of f x y wanted true is other p q h u = eq_unlike f x y p u h ∙ ap (λ (s : Bool). fin s 0 (pos 0)) (is tt)

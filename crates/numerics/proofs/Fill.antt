@@ -1,4 +1,5 @@
--- A list that is filled from the front, entry by entry, with what a function gives. Assumes nothing.
+-- A list that is filled from the front, entry by entry, with what a function gives. Assumes
+-- nothing.
 use mathlib.Core.Path.{◌≡◌, refl, sym, ap, subst, ◌∙◌}
 use mathlib.Core.List.{List, ◌++◌, map, append-nil}
 use Prim.Native.Nat.{ℕ, zero, suc, ◌+◌, ◌*◌, ◌/◌, ◌%◌, ◌<◌}

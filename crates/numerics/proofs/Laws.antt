@@ -1,4 +1,5 @@
--- Laws of the larger and the smaller of two values, and of the largest of a list. A number here is a value that is no NaN. Assumes nothing.
+-- Laws of the larger and the smaller of two values, and of the largest of a list. A number here
+-- is a value that is no NaN. Assumes nothing.
 use mathlib.Core.Path.{◌≡◌, refl, sym, ap, ◌∙◌, subst}
 use mathlib.Core.Bool.{Bool, true, false, not, ◌&&◌, ◌||◌, cond, and-true}
 use mathlib.Core.List.{List, [], ◌∷◌, ◌++◌}
@@ -101,7 +102,8 @@ nonneg_largest low (x ∷ xs) n = nonneg_largest (max low x) xs (nonneg_max low 
 pub floor_clear : (xs : List Float) (s : Float) → s ≡ largest xs → T (nonneg (epsilon64 ⊗ s))
 floor_clear xs s e = rw e (nonneg_floor (largest xs) (nonneg_largest zero xs (nonneg_zero binary64)))
 
--- One comparison each finds it: what was found of xs is clear of the sign, and so is what is found of one more.
+-- One comparison each finds it: what was found of xs is clear of the sign, and so is what is
+-- found of one more.
 abbrev pub Found : List Float → Float → Type 0
 Found xs low = T (nonneg low) × (low ≡ largest xs)
 

@@ -1,4 +1,5 @@
--- Laws of values, of lists of numbers and of the larger and the smaller of two values. Those in `pub`
+-- Laws of values, of lists of numbers and of the larger and the smaller of two values. Those in
+-- `pub`
 -- modules other crates cite.
 pub mod Values
 pub mod Specials

@@ -1,4 +1,5 @@
--- A sum of values clear of the sign never falls, and some products stay clear of the sign. Assumes nothing.
+-- A sum of values clear of the sign never falls, and some products stay clear of the sign.
+-- Assumes nothing.
 use mathlib.Core.Path.{◌≡◌, refl, sym, ◌∙◌, subst}
 use mathlib.Core.Bool.{Bool, true, false, not, cond}
 use Prim.Native.Nat.{ℕ, zero, suc, ◌+◌, ◌-◌, ◌*◌, ◌≤◌}

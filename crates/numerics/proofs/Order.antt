@@ -1,4 +1,5 @@
--- The laws that callers cite: the order of values, and what keeps a value a number, or clear of the sign. A number here is a value that is no NaN.
+-- The laws that callers cite: the order of values, and what keeps a value a number, or clear of
+-- the sign. A number here is a value that is no NaN.
 -- Assumes nothing.
 use mathlib.Core.Path.{◌≡◌, refl, sym, subst}
 use mathlib.Core.Bool.{Bool, true, false, not, cond}

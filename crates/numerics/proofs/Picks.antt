@@ -13,7 +13,8 @@ sign_is nan = refl
 sign_is (inf s) = refl
 sign_is (fin s m e) = refl
 
--- `max x y` and `min x y` alike: ahead says that x is strictly the one wanted, and sign that it has the wanted sign
+-- `max x y` and `min x y` alike: ahead says that x is strictly the one wanted, and sign that it
+-- has the wanted sign
 abbrev pub pick : Bool → Bool → Float → Float → Float
 pick ahead sign x y = cond (is_nan y || ahead || (eq x y && sign)) x y
 

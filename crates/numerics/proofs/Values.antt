@@ -1,4 +1,5 @@
--- Values by their fractions. Of the values that a format holds one alone has a given sign and size (`same_value`).
+-- Values by their fractions. Of the values that a format holds one alone has a given sign and
+-- size (`same_value`).
 -- So a fraction of that size is rounded to it (`round_value`). Assumes nothing.
 use mathlib.Core.Path.{◌≡◌, refl, sym, ap, ap₂, ◌∙◌, subst₂}
 use mathlib.Core.Bool.{Bool, ◌&&◌, cond}

@@ -1,5 +1,4 @@
--- What the methods of `f64` that the Rust calls give for every binary64, and sums and products of
--- lists of them.
+-- Methods of `f64`, and small vectors.
 pub mod Binary64
 pub mod Parts
 pub mod Vectors

@@ -1,17 +1,8 @@
-//! What is asked of a list of numbers: an entry, whether all are finite, and the sum of the
+//! What is asked of a list of numbers: whether all are finite, and the sum of the
 //! products with another's.
 
 ghost use Rattle.std.specs.Prelude.{◌≡◌};
 ghost use Rattle.numerics.specs.Vectors as Vectors;
-ghost use Rattle.numerics.specs.Vectors.{◌!◌};
-
-/// The entry at i, and beyond the end a NaN.
-#[tactic(auto, using(crate::proofs::Specials::nan_of_pattern))]
-pub fn entry(values: &[f64], i: usize) -> f64
-    ensures { result ≡ values.now ! i }
-{
-    values.get(i).copied().unwrap_or(f64::NAN)
-}
 
 /// Whether every entry is finite.
 pub fn all_finite(values: &[f64]) -> bool

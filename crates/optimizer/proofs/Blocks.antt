@@ -1,4 +1,6 @@
--- The blocks of a problem that rows 1 to 9 let through, by the claim on lists of calls of `add`: where the system is valid each factors; how many are weak; and the costs are numbers. Assumes nothing.
+-- The blocks of a problem that rows 1 to 9 let through, by the claim on lists of calls of `add`:
+-- where the system is valid each factors; how many are weak; and the costs are numbers. Assumes
+-- nothing.
 use mathlib.Core.Path.{◌≡◌, refl, sym, ap, ap₂, ◌∙◌}
 use mathlib.Core.Bool.{Bool, true, false, ◌&&◌}
 use mathlib.Core.List.{List, [], ◌∷◌}

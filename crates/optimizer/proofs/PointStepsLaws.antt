@@ -1,4 +1,5 @@
--- On a problem that rows 1 to 9 let through no call within the step is refused; once the system is valid no point step is, since each block factors. Assumes nothing.
+-- On a problem that rows 1 to 9 let through no call within the step is refused; once the system
+-- is valid no point step is, since each block factors. Assumes nothing.
 use mathlib.Core.Path.{◌≡◌, refl, sym, ap, ◌∙◌}
 use mathlib.Core.Bool.{true, true≢false}
 use mathlib.Core.List.{List}

@@ -1,4 +1,5 @@
--- `reduced_system` of optimizer.rs: the blocks of all points in one reduced system, then the pose damping.
+-- `reduced_system` of optimizer.rs: the blocks of all points in one reduced system, then the
+-- pose damping.
 use Rattle.std.specs.Prelude.{ℕ, zero, suc}
 use Rattle.linearization.specs.Linearize.{block_of}
 use Rattle.linearization.specs.declared.linearize.LocalLinearization.{LocalLinearization}

@@ -1,4 +1,5 @@
--- The steps of all points with a step of the pose, and their sums as `candidate_cost` of optimizer.rs has them, from +0.
+-- The steps of all points with a step of the pose, and their sums as `candidate_cost` of
+-- optimizer.rs has them, from +0.
 use Rattle.std.specs.Prelude.{ℕ, zero, suc, List, [], ◌∷◌, ◌++◌, Float, Result}
 use Rattle.refusal.specs.declared.Refusal.{Refusal}
 use Rattle.numerics.specs.Binary64.{◌⊕◌, zero as zero·}

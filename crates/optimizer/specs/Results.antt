@@ -26,7 +26,8 @@ no_result = record {
   predicted_reduction = zero;
 }
 
--- the result, from the system, the limited step of the pose, and the squared lengths and damping norms of n point steps, summed
+-- the result, from the system, the limited step of the pose, and the squared lengths and damping
+-- norms of n point steps, summed
 unfoldable pub finished : ReducedSystem → List Float → Float → ℕ → Float → Float → StepResult
 finished system s damping n squared damping_norm = record {
   pose_step = s;

@@ -1,4 +1,5 @@
--- `refine_impl` of optimizer.rs from `reduced_system` to `predicted_reduction`, once: document 01, "One whole step".
+-- `refine_impl` of optimizer.rs from `reduced_system` to `predicted_reduction`, once: document
+-- 01, "One whole step".
 use Rattle.std.specs.Prelude.{ℕ, suc, ◌*◌, ◌<◌, ◌≡◌, true, cond, List, eqb, length, Float, Result, Ok, Err}
 use Rattle.std.specs.Result.{result_and}
 use Rattle.refusal.specs.Answer.{answer}
@@ -45,7 +46,8 @@ abbrev pub written : Problem → Result StepResult Refusal → List Float → Li
 written p (Ok r) room = steps_to p r.pose_step (count p)
 written p (Err e) room = room
 
--- What the calls by themselves answer on a problem that rows 1 to 9 let through: each point has its block, each block is taken in, and, once the system is valid, no point step is
+-- What the calls by themselves answer on a problem that rows 1 to 9 let through: each point has
+-- its block, each block is taken in, and, once the system is valid, no point step is
 -- refused, whatever the step of the pose.
 pub record NoneRefused (p : Problem) : Type 0 where
   pub blocks : (i : ℕ) → i < count p → linearize_point p.rig (correspondence_at p i) ≡ Ok (block_at p i)
@@ -54,7 +56,8 @@ pub record NoneRefused (p : Problem) : Type 0 where
   pub steps : is_valid (reduced_system p) ≡ true → (i : ℕ) → i < count p → (s : List Float) → answer_at p s i ≡ Ok (step_at p s i)
   pub prediction : (s : List Float) (norm : Float) → predicted_reduction (reduced_system p) s p.damping norm ≡ Ok (reduction_of (reduced_system p) s p.damping norm)
 
--- what a call promises: its answer, the room, and, where rows 1 to 9 let the problem through, that nothing within it is refused but by rows 10 and 11
+-- what a call promises: its answer, the room, and, where rows 1 to 9 let the problem through,
+-- that nothing within it is refused but by rows 10 and 11
 pub record Done (p : Problem) (room : List Float) (r : Result StepResult Refusal) (after : List Float) : Type 0 where
   pub result : r ≡ step p (length room)
   pub answered : answer no_result r ≡ answer no_result (step p (length room))

@@ -15,14 +15,14 @@ use problem::checks::CheckedProblem;
 use problem::correspondences::ProblemPoint;
 use schur::point_step;
 
-/// The squared lengths of the point steps and their damping norms, summed
+// The squared lengths of the point steps and their damping norms, summed
 #[derive(Clone, Copy)]
-pub struct Sums {
+pub(crate) struct Sums {
     pub squared: f64,
     pub damping_norm: f64,
 }
 
-/// Writes each point's step into the room.
+// Writes each point's step into the room.
 #[tactic(auto, using(crate::proofs::Passes::room_none, crate::proofs::Passes::room_next, crate::proofs::Passes::sums_none, crate::proofs::Passes::squared_next, crate::proofs::Passes::norm_next))]
 pub(crate) fn write_steps(problem: &CheckedProblem, pose_step: [f64; 5], room: &mut [f64]) -> Sums
     requires valid { Model.is_valid (Assembly.reduced_system problem.now) ≡ true }

@@ -19,7 +19,8 @@ use Rattle.point_block.specs.declared.LoneFactor.{LoneFactor}
 use Rattle.point_block.specs.Condition.{infinity_norm, inverse_matrix, reciprocal_condition_number}
 use Rattle.point_block.specs.Lone.{factor, lone_factor, inverse_at}
 
--- the lone factor gives the factor wherever there is one: nothing but the matrix and the damping decides whether there is
+-- the lone factor gives the factor wherever there is one: nothing but the matrix and the damping
+-- decides whether there is
 pub lone_factors : (m : List Float) (damping : Float) → T (good_damping damping) → is_ok (lone_factor m damping) ≡ is_ok (factor m damping)
 unfolding lone_factor
 lone_factors m damping g = rw (is_true (good_damping damping) g) (by (factor m damping))

@@ -1,4 +1,5 @@
--- The scaled Cholesky factor of a symmetric 3 by 3 block, the arithmetic of `factor_damped` of point_block.rs. A matrix is nine numbers, row by row.
+-- The scaled Cholesky factor of a symmetric 3 by 3 block, the arithmetic of `factor_damped` of
+-- point_block.rs. A matrix is nine numbers, row by row.
 use Rattle.std.specs.Prelude.{Bool, ◌&&◌, cond, List, [], ◌∷◌, Float, Option, Some, None}
 use Rattle.std.specs.Float.Ieee.{neg, lt}
 use Rattle.numerics.specs.Binary64.{◌⊕◌, ◌⊖◌, ◌⊗◌, ◌⊘◌, half, epsilon64, recip}
@@ -43,7 +44,8 @@ good_pivot p = is_finite p && lt epsilon64 p
 unfoldable pub good_pivots : Factor → Bool
 good_pivots c = good_pivot c.p0 && good_pivot c.p1 && good_pivot c.p2
 
--- M is the inverse of the lower triangle; the scaled inverse is Mᵀ M, and the block's has the scale taken out on both sides
+-- M is the inverse of the lower triangle; the scaled inverse is Mᵀ M, and the block's has the
+-- scale taken out on both sides
 unfoldable pub inverse_of : Lower → Scale → List Float
 inverse_of l s =
     let m₀₀ = recip l.e00 in
@@ -67,7 +69,8 @@ inverse_of l s =
 abbrev pub factor_of : List Float → List Float → Factor
 factor_of m d = cholesky_of (scaled_of m (scale_of d))
 
--- The inverse by that factor, packed: 00, 10, 11, 20, 21, 22. It is the formula alone, whether the pivots are good or not.
+-- The inverse by that factor, packed: 00, 10, 11, 20, 21, 22. It is the formula alone, whether
+-- the pivots are good or not.
 unfoldable pub inverse_by : List Float → List Float → List Float
 inverse_by m d = inverse_of (factor_of m d).lower (scale_of d)
 

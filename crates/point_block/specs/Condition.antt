@@ -1,4 +1,5 @@
--- `reciprocal_condition_number` of point_block.rs: 1 ÷ (infinity norm of the matrix × that of the inverse), or 0 if that product is not positive and finite.
+-- `reciprocal_condition_number` of point_block.rs: 1 ÷ (infinity norm of the matrix × that of
+-- the inverse), or 0 if that product is not positive and finite.
 use Rattle.std.specs.Prelude.{Bool, cond, List, [], ◌∷◌, Float}
 use Rattle.std.specs.Float.Ieee.{le}
 use Rattle.numerics.specs.Binary64.{◌⊗◌, zero, one, epsilon192, recip}
@@ -14,7 +15,8 @@ row_norm x y z = sum (abs x ∷ abs y ∷ abs z ∷ [])
 unfoldable pub infinity_norm : List Float → Float
 infinity_norm m = largest (row_norm (m ! 0) (m ! 1) (m ! 2) ∷ row_norm (m ! 3) (m ! 4) (m ! 5) ∷ row_norm (m ! 6) (m ! 7) (m ! 8) ∷ [])
 
--- The inverse by three solves with unit vectors, each a column: not the six stored numbers, since ∞ × 0 has to show.
+-- The inverse by three solves with unit vectors, each a column: not the six stored numbers,
+-- since ∞ × 0 has to show.
 unfoldable pub inverse_matrix : List Float → List Float
 inverse_matrix i =
     let x = solve i (one ∷ zero ∷ zero ∷ []) in

@@ -1,4 +1,5 @@
--- The damping of a 3 by 3 point block, `damping_diagonal` and `damped_matrix` of point_block.rs. A matrix is nine numbers, row by row.
+-- The damping of a 3 by 3 point block, `damping_diagonal` and `damped_matrix` of point_block.rs.
+-- A matrix is nine numbers, row by row.
 use Rattle.std.specs.Prelude.{Bool, not, ◌&&◌, cond, List, [], ◌∷◌, Float, Result, Ok, Err}
 use Rattle.std.specs.Float.Ieee.{lt, eq}
 use Rattle.numerics.specs.Binary64.{◌⊕◌, ◌⊗◌, zero, epsilon64}

@@ -1,4 +1,5 @@
--- The factor of a damped 3 by 3 block, `factor_damped` and `solve` of point_block.rs. What is kept is the block's inverse, packed: 00, 10, 11, 20, 21, 22.
+-- The factor of a damped 3 by 3 block, `factor_damped` and `solve` of point_block.rs. What is
+-- kept is the block's inverse, packed: 00, 10, 11, 20, 21, 22.
 use Rattle.std.specs.Prelude.{List, [], ◌∷◌, Float, Result, Ok, Err, Some, None}
 use Rattle.numerics.specs.Binary64.{◌⊕◌, ◌⊗◌}
 use Rattle.numerics.specs.Vectors.{◌!◌, zeros}
@@ -12,7 +13,8 @@ use Rattle.point_block.specs.declared.PointBlockFactor.{PointBlockFactor}
 abbrev pub no_factor : PointBlockFactor
 no_factor = record { inverse = zeros 6 }
 
--- row 10 where a pivot is not good; the scale is the roots of the diagonal entries, none below 64ε of the largest
+-- row 10 where a pivot is not good; the scale is the roots of the diagonal entries, none below
+-- 64ε of the largest
 unfoldable pub factor_damped : List Float → Result PointBlockFactor Refusal
 factor_damped m = elim (invert m (floored m)) [ Some i ↦ Ok (record { inverse = i }) | None ↦ Err NotFactored ]
 

@@ -1,4 +1,5 @@
--- The factor of a block at a damping, which is the Rust's `PointBlockFactor::new`, and the lone factor of document 01, which tests row 3, then row 10, and has its rcond beside it.
+-- The factor of a block at a damping, which is the Rust's `PointBlockFactor::new`, and the lone
+-- factor of document 01, which tests row 3, then row 10, and has its rcond beside it.
 use Rattle.std.specs.Prelude.{cond, List, Float, Result, Ok, Err}
 use Rattle.numerics.specs.Binary64.{zero}
 use Rattle.refusal.specs.declared.Refusal.{Refusal}
@@ -14,7 +15,8 @@ use Rattle.point_block.specs.Condition.{reciprocal_condition_number}
 unfoldable pub factor : List Float → Float → Result PointBlockFactor Refusal
 factor m damping = elim (damped_matrix m damping) [ Ok d ↦ factor_damped d | Err r ↦ Err r ]
 
--- the packed inverse of the damped matrix by the formulas alone: that of the factor, where there is one
+-- the packed inverse of the damped matrix by the formulas alone: that of the factor, where there
+-- is one
 abbrev pub inverse_at : List Float → Float → List Float
 inverse_at m damping =
     let damped = added_diagonal m damping (floored m) in

@@ -1,8 +1,10 @@
 // SPDX-FileCopyrightText: 2026 Pierre Moulon and OpenMVG Rust contributors
 // SPDX-License-Identifier: MIT OR Apache-2.0
 
-// Scaled Cholesky factorization for symmetric 3 by 3 point blocks: kernel/point_block.rs. A matrix is
-// nine numbers, row by row; `cholesky` has the arithmetic of the factor, `point_damping` the damping.
+// Scaled Cholesky factorization for symmetric 3 by 3 point blocks: kernel/point_block.rs. A
+// matrix is
+// nine numbers, row by row; `cholesky` has the arithmetic of the factor, `point_damping` the
+// damping.
 #![tactic(auto)]
 
 mod cholesky;
@@ -32,22 +34,22 @@ pub struct LoneFactor {
 }
 
 impl PointBlockFactor {
-    // The lone factor: tests row 3, then row 10.
+    /// The factor with its rcond. Tests row 3, then row 10.
     #[tactic(auto, unfolding(crate::specs::Lone::lone_factor))]
     pub fn new(matrix: [f64; 9], damping: f64) -> Result<LoneFactor, Refusal>
         ensures result { result ≡ Lone.lone_factor matrix damping }
         ensures answer { answer Lone.no_lone_factor result
             ≡ answer Lone.no_lone_factor (Lone.lone_factor matrix damping) }
     {
-        ValidDamping::new(damping)?;
+        let damping = ValidDamping::new(damping)?;
         let factor = Self::factor(matrix, damping)?;
         let rcond = factor.reciprocal_condition_number(matrix);
         Ok(LoneFactor { factor, rcond })
     }
 
-    // The factor of the matrix at a damping: the Rust's `new`. Row 3 is not tested here.
+    /// The factor of the matrix at a damping, which is the Rust's `new`. Tests row 10.
     #[tactic(auto, unfolding(crate::specs::Lone::factor))]
-    pub fn factor(matrix: [f64; 9], damping: f64) -> Result<Self, Refusal>
+    pub fn factor(matrix: [f64; 9], damping: ValidDamping) -> Result<Self, Refusal>
         ensures result { result ≡ Lone.factor matrix damping }
         ensures answer { answer Factor.no_factor result
             ≡ answer Factor.no_factor (Lone.factor matrix damping) }
@@ -55,7 +57,7 @@ impl PointBlockFactor {
         Self::factor_damped(point_damping::damped_matrix(matrix, damping)?)
     }
 
-    // The factor of a matrix that is damped already.
+    /// The factor of a matrix that is damped already. Tests row 10.
     #[tactic(auto, unfolding(crate::specs::Factor::factor_damped))]
     pub fn factor_damped(damped: [f64; 9]) -> Result<Self, Refusal>
         ensures result { result ≡ Factor.factor_damped damped }
@@ -84,7 +86,8 @@ impl PointBlockFactor {
         ]
     }
 
-    // 1 ÷ (norm of the matrix × norm of the inverse), and 0 where that product is not positive and finite.
+    // 1 ÷ (norm of the matrix × norm of the inverse), and 0 where that product is not
+    // positive and finite.
     #[tactic(auto, unfolding(crate::specs::Condition::reciprocal_condition_number))]
     pub fn reciprocal_condition_number(self, matrix: [f64; 9]) -> f64
         ensures { result ≡ Condition.reciprocal_condition_number self.inverse matrix }

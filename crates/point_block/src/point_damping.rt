@@ -1,7 +1,8 @@
 // SPDX-FileCopyrightText: 2026 Pierre Moulon and OpenMVG Rust contributors
 // SPDX-License-Identifier: MIT OR Apache-2.0
 
-// The damping of a symmetric 3 by 3 point block: kernel/point_block.rs. A matrix is nine numbers, row by
+// The damping of a symmetric 3 by 3 point block: kernel/point_block.rs. A matrix is nine
+// numbers, row by
 // row.
 
 ghost use Rattle.std.specs.Prelude.{◌≡◌, T};
@@ -70,15 +71,16 @@ fn good_damping(damping: f64) -> bool
 /// The matrix with damping times the floored diagonal added along its diagonal. Row 10 where the
 /// largest diagonal entry is not positive and finite.
 #[tactic(auto, unfolding(crate::specs::Damping::damped_matrix))]
-pub fn damped_matrix(matrix: [f64; 9], damping: f64) -> Result<[f64; 9], Refusal>
+pub fn damped_matrix(matrix: [f64; 9], damping: ValidDamping) -> Result<[f64; 9], Refusal>
     ensures result { result ≡ Damping.damped_matrix matrix damping }
     ensures answer { answer (zeros 9) result ≡ answer (zeros 9) (Damping.damped_matrix matrix damping) }
 {
     let diagonal = damping_diagonal(matrix)?;
-    Ok(added_diagonal(matrix, damping, diagonal))
+    Ok(added_diagonal(matrix, damping.value(), diagonal))
 }
 
-/// What damping is multiplied with. Row 10 where the largest diagonal entry is not positive and finite.
+/// What damping is multiplied with. Row 10 where the largest diagonal entry is not positive and
+/// finite.
 #[tactic(auto, unfolding(crate::specs::Damping::damping_diagonal))]
 pub fn damping_diagonal(matrix: [f64; 9]) -> Result<[f64; 3], Refusal>
     ensures result { result ≡ Damping.damping_diagonal matrix }

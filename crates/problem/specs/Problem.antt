@@ -1,6 +1,7 @@
--- What a whole step is lent and handed: flat lists, the rig (both cameras, and how the second one sits), and the damping.
+-- What a whole step is lent and handed: flat lists, the rig (both cameras, and how the second
+-- one sits), and the damping.
 use Rattle.std.specs.Prelude.{ℕ, ◌+◌, ◌*◌, List, [], ◌∷◌, length, Float, Result}
-use Rattle.numerics.specs.Vectors.{◌!◌, tabulate}
+use Rattle.numerics.specs.Vectors.{◌!◌}
 use Rattle.refusal.specs.declared.View.{View}
 use Rattle.refusal.specs.declared.View.TheVariants.{First, Second}
 use Rattle.refusal.specs.declared.Refusal.{Refusal}
@@ -36,10 +37,6 @@ triple l i = l ! (3 * i) ∷ l ! (3 * i + 1) ∷ l ! (3 * i + 2) ∷ []
 
 abbrev pub pair : List Float → ℕ → List Float
 pair l i = l ! (2 * i) ∷ l ! (2 * i + 1) ∷ []
-
--- the n numbers at an index
-abbrev pub numbers : ℕ → List Float → ℕ → List Float
-numbers n l i = tabulate n (λ k. l ! (n * i + k))
 
 -- the two numbers of a view at an index
 abbrev pub observation : List Float → List Float → View → ℕ → List Float

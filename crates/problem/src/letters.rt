@@ -24,7 +24,7 @@ impl Grade {
     fn of(local: LocalLinearization, damping: ValidDamping) -> Self
         ensures { result ≡ Letters.of local damping }
     {
-        let Ok(factor) = PointBlockFactor::factor(local.point_hessian, damping.value()) else {
+        let Ok(factor) = PointBlockFactor::factor(local.point_hessian, damping) else {
             return Grade::NotFactored;
         };
         if !damping.is_zero() {
@@ -49,7 +49,8 @@ impl Grade {
     }
 }
 
-/// The letter of a block at a damping: `n` does not factor; at damping zero `w` is weak and `g` good; at
+/// The letter of a block at a damping: `n` does not factor; at damping zero `w` is weak and `g`
+/// good; at
 /// other dampings `f` factors.
 #[tactic(auto, unfolding(crate::specs::Letters::letter))]
 pub fn letter(local: LocalLinearization, damping: ValidDamping) -> u8

@@ -23,8 +23,10 @@ pub fn read(rt: &impl Files, name: &str, room: &mut [u8]) -> io::Result<usize>
     Ok(n)
 }
 
-/// Reads until `room` is full or the input has come to its end, and answers how many bytes it put at
-/// the start of `room`. A read that is interrupted is made again, up to 2^64 reads in all; any other
+/// Reads until `room` is full or the input has come to its end, and answers how many bytes it
+/// put at
+/// the start of `room`. A read that is interrupted is made again, up to 2^64 reads in all; any
+/// other
 /// error is the answer.
 pub fn read_full<R: Read>(input: &mut R, room: &mut [u8]) -> io::Result<usize>
     ensures bound { ReadsAtMost result room.new }

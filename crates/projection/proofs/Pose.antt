@@ -1,4 +1,5 @@
--- A non-finite rotation or translation makes every point of the second view one that is not projectable (`not_projectable`). Assumes nothing.
+-- A non-finite rotation or translation makes every point of the second view one that is not
+-- projectable (`not_projectable`). Assumes nothing.
 use mathlib.Core.Path.{◌≡◌, refl, sym, ◌∙◌}
 use mathlib.Core.Bool.{Bool, true, false, ◌&&◌, true≢false}
 use mathlib.Core.List.{List}

@@ -18,7 +18,8 @@ first_next check n i h =
     let k : n - i ≡ suc (n - (i + 1)) = omega arith in
     rw k (ap (λ (j : ℕ). result_and (check i) (first check j (n - (i + 1)))) (sym (add-one i)))
 
--- A loop over indexes below n that is left at the first refused one: those before i were not, and the rest decides the whole.
+-- A loop over indexes below n that is left at the first refused one: those before i were not,
+-- and the rest decides the whole.
 abbrev pub Scanned : Checked → (ℕ → Checked) → ℕ → ℕ → Type 0
 Scanned whole check n i = (i ≤ n) × (whole ≡ first check i (n - i))
 

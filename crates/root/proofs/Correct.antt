@@ -1,4 +1,5 @@
--- The root's definition is IEEE 754's: for every finite binary64 above zero it gives a binary64, and no other lies as near to the exact root (`sqrt_correct`). Assumes nothing.
+-- The root's definition is IEEE 754's: for every finite binary64 above zero it gives a binary64,
+-- and no other lies as near to the exact root (`sqrt_correct`). Assumes nothing.
 use mathlib.Core.Path.{◌≡◌, sym, ap, subst, ◌∙◌}
 use mathlib.Core.Bool.{Bool, true, false, not}
 use Prim.Native.Nat.{ℕ, suc, ◌+◌, ◌-◌, ◌*◌, ◌/◌, ◌^◌, ◌≤◌, ◌<◌, zero-le}
@@ -89,7 +90,8 @@ module _ (d k r t j : ℕ) (low_d : 2 ^ 104 ≤ d) (low_r : 2 ^ 52 ≤ r) (near 
   coarser : k ≤ j → t * 2 ^ j ≡ t * 2 ^ (j - k) * K
   coarser h = ap (λ (n : ℕ). t * n) (ap (λ (n : ℕ). 2 ^ n) (sym (sub-add_cancel h)) ∙ pow-add 2 (j - k) k) ∙ sym (mul_assoc t (2 ^ (j - k)) K)
 
-  -- the next multiple lies at least as near as any value above, and the last one as near as any below
+  -- the next multiple lies at least as near as any value above, and the last one as near as
+  -- any below
   next : r * K < t * 2 ^ j → suc r * K ≤ t * 2 ^ j
   next l = go (leb k j) (leb→le k j) (nleb→lt k j)
     where

@@ -30,7 +30,8 @@ to_bits_of (fin false m e) a h =
 
 -- ---- what a pattern's fields count
 
--- the digits with the leading one, which an exponent's field above 0 adds, and the power of two beside them
+-- the digits with the leading one, which an exponent's field above 0 adds, and the power of two
+-- beside them
 abbrev pub digits : ℕ → ℕ → ℕ
 digits zero t = t
 digits (suc x) t = 2 ^ 52 + t

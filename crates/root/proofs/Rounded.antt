@@ -1,4 +1,5 @@
--- The definition of the root, at an n that is d * 2 ^ (2 * k) with a d of 105 or 106 digits: it is r * 2 ^ k units, where r is the whole number nearest to the root of d. Assumes nothing.
+-- The definition of the root, at an n that is d * 2 ^ (2 * k) with a d of 105 or 106 digits: it
+-- is r * 2 ^ k units, where r is the whole number nearest to the root of d. Assumes nothing.
 use mathlib.Core.Path.{◌≡◌, refl, sym, ap, subst, ◌∙◌}
 use mathlib.Core.Logic.{◌⊎◌, inl, inr}
 use mathlib.Core.Bool.{Bool, true, false, cond, true≢false}

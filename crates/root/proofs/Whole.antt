@@ -1,4 +1,5 @@
--- Roots of whole numbers: Heron's mean, the whole part of a root, and the nearest whole number to one. Assumes nothing.
+-- Roots of whole numbers: Heron's mean, the whole part of a root, and the nearest whole number
+-- to one. Assumes nothing.
 use mathlib.Core.Path.{◌≡◌, sym, subst, ◌∙◌}
 use mathlib.Core.Bool.{Bool, true, false, not, cond}
 use Prim.Native.Nat.{ℕ, zero, suc, ◌+◌, ◌-◌, ◌*◌, ◌/◌, ◌^◌, ◌≤◌, ◌<◌, compare, Ordering}

@@ -1,4 +1,6 @@
--- The prefix that the program `list` reads decides: a record's list is the list of its first 34,560 bytes, one more than the longest record has. A longer record is refused by row 14, of which nothing but the number is printed.
+-- The prefix that the program `list` reads decides: a record's list is the list of its first
+-- 34,560 bytes, one more than the longest record has. A longer record is refused by row 14, of
+-- which nothing but the number is printed.
 -- Assumes nothing.
 use mathlib.Core.Path.{◌≡◌, refl, sym, ap, ◌∙◌}
 use mathlib.Core.Bool.{Bool, true, false}

@@ -52,7 +52,8 @@ fits r out = leb (length (list r)) (length out)
 abbrev pub answered : List ℕ → List ℕ → Result ℕ TooSmall
 answered r out = cond (fits r out) (Ok (length (list r))) (Err (record { needed = length (list r) }))
 
--- what `write_list` leaves: the list's length, or that it is too long; and the list in out, which is else as it was
+-- what `write_list` leaves: the list's length, or that it is too long; and the list in out,
+-- which is else as it was
 pub record Wrote (r out : List ℕ) (w : Result ℕ TooSmall) (after : List ℕ) : Type 0 where
   pub answer : w ≡ answered r out
   pub bound : length (list r) ≤ max_list

@@ -12,7 +12,8 @@ validity valid = cond valid 121 110
 abbrev pub verdict : Bool → ℕ → ℕ
 verdict valid weak = cond (valid && eqb weak 0) 117 120
 
--- `sum`, cost bits, squared residual bits, weak count, validity, verdict; of the system after pose damping
+-- `sum`, cost bits, squared residual bits, weak count, validity, verdict; of the system after
+-- pose damping
 unfoldable pub sum_line : ReducedSystem → List ℕ
 sum_line s =
     115 ∷ 117 ∷ 109 ∷ [] ++ bits_then s.cost [] ++ bits_then s.squared_residual (space ∷ []) ++ decimal s.weak_point_count

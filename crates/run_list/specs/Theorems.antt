@@ -17,6 +17,7 @@ SumsAreNeverNan = (r : List ℕ) → check r ≡ Ok tt → NeverNan r
 abbrev pub PrefixDecides : Type 0
 PrefixDecides = (r : List ℕ) → list (take (Form.max_record + 1) r) ≡ list r
 
--- A record of the right form meets no row before row 3: its columns have as many numbers as its points ask for, and it has 512 points at most.
+-- A record of the right form meets no row before row 3: its columns have as many numbers as its
+-- points ask for, and it has 512 points at most.
 abbrev pub FromRow3 : Type 0
 FromRow3 = (r : List ℕ) → Form.check r ≡ Ok tt → Checks.check (run r) ≡ Checks.check_values (run r)

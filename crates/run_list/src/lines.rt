@@ -6,11 +6,11 @@ ghost use Rattle.run_list.specs.Lines as Lines;
 ghost use Rattle.text.specs.Text as Text;
 
 use refusal::Refusal;
-pub use sum::put_sum;
+pub(crate) use sum::put_sum;
 use text::{Writer, hex_digits};
 
 // `run`, the number of points, the damping's bits
-pub fn put_run(writer: &mut Writer, n: u32, damping: f64)
+pub(crate) fn put_run(writer: &mut Writer, n: u32, damping: f64)
     ensures { Text.Wrote (Lines.run_line n damping) writer.old writer.new }
 {
     writer.put(b"run ");
@@ -19,7 +19,7 @@ pub fn put_run(writer: &mut Writer, n: u32, damping: f64)
 }
 
 // A space, a number's bits, and what follows them
-pub fn put_bits(writer: &mut Writer, x: f64, after: &[u8])
+pub(crate) fn put_bits(writer: &mut Writer, x: f64, after: &[u8])
     ensures { Text.Wrote (Lines.bits_then x after.now) writer.old writer.new }
 {
     let digits = hex_digits::digits(numerics::to_bits(x));
@@ -28,7 +28,7 @@ pub fn put_bits(writer: &mut Writer, x: f64, after: &[u8])
 
 // `p`, the index, the letter as it stands in the text
 #[tactic(auto, using(text::proofs::Wrote::wrote_both), unfolding(crate::specs::Lines::point_line))]
-pub fn put_point(writer: &mut Writer, i: u32, letter: u8)
+pub(crate) fn put_point(writer: &mut Writer, i: u32, letter: u8)
     ensures { Text.Wrote (Lines.point_line i letter) writer.old writer.new }
 {
     writer.put(b"p ");
@@ -36,7 +36,7 @@ pub fn put_point(writer: &mut Writer, i: u32, letter: u8)
 }
 
 // `refused`, number, view, index
-pub fn put_refused(writer: &mut Writer, refusal: Refusal)
+pub(crate) fn put_refused(writer: &mut Writer, refusal: Refusal)
     ensures { Text.Wrote (Lines.refused_line refusal) writer.old writer.new }
 {
     let row = refusal.row();

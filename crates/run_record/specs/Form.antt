@@ -1,4 +1,5 @@
--- The form of a run record: fields of one tag byte, two length bytes (low first) and a payload. Tags 1 to 5 are due in order, once each; then tag 6 for each point to the end.
+-- The form of a run record: fields of one tag byte, two length bytes (low first) and a payload.
+-- Tags 1 to 5 are due in order, once each; then tag 6 for each point to the end.
 use Rattle.std.specs.Prelude.{ℕ, ◌+◌, ◌*◌, Bool, ◌&&◌, List, [], ◌∷◌, eqb, leb, length}
 use Rattle.refusal.specs.First.{Checked, unless, first_of, first}
 use Rattle.refusal.specs.declared.Refusal.TheVariants.{RecordTooLong, RecordForm}

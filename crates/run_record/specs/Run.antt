@@ -1,4 +1,5 @@
--- What a record of the right form holds: binary64 numbers, each in eight bytes of a payload, low byte first.
+-- What a record of the right form holds: binary64 numbers, each in eight bytes of a payload, low
+-- byte first.
 use Rattle.std.specs.Prelude.{ℕ, ◌+◌, ◌*◌, ◌/◌, ◌%◌, List, [], ◌∷◌, ◌++◌, Float}
 use Rattle.std.specs.Float.{binary64}
 use Rattle.std.specs.Float.Ieee.{of_bits}

@@ -5,13 +5,13 @@ ghost use Rattle.std.specs.Prelude.{◌≡◌};
 ghost use Rattle.run_record.specs.Fields as Fields;
 
 // The bytes before a payload
-pub const HEAD_SIZE: usize = 3;
+pub(crate) const HEAD_SIZE: usize = 3;
 
 // The bytes of a number
-pub const NUMBER_SIZE: usize = 8;
+pub(crate) const NUMBER_SIZE: usize = 8;
 
 #[derive(Clone, Copy, Debug, PartialEq, Eq)]
-pub enum Field {
+pub(crate) enum Field {
     Camera1,
     Camera2,
     Pose,
@@ -22,7 +22,7 @@ pub enum Field {
 
 impl Field {
     // The byte that the field begins with
-    pub fn tag(self) -> u8
+    pub(crate) fn tag(self) -> u8
         ensures { result ≡ Fields.tag self }
     {
         match self {
@@ -36,7 +36,7 @@ impl Field {
     }
 
     // The bytes of the payload
-    pub fn size(self) -> usize
+    pub(crate) fn size(self) -> usize
         ensures { result ≡ Fields.size self }
     {
         NUMBER_SIZE

@@ -10,7 +10,7 @@ use std::array;
 
 // The number at a byte of a payload
 #[tactic(auto, unfolding(crate::specs::Run::number_at), using(crate::proofs::Numbers::word_read))]
-pub fn number_at(payload: &[u8], at: usize) -> f64
+pub(crate) fn number_at(payload: &[u8], at: usize) -> f64
     requires { at + 8 ≤ length payload.now }
     ensures { result ≡ Runs.number_at payload.now at }
 {
@@ -37,7 +37,7 @@ fn numbers_at<const N: usize>(payload: &[u8], at: usize) -> [f64; N]
 
 // What a camera's field carries
 #[tactic(auto, unfolding(crate::specs::Run::camera))]
-pub fn camera(payload: &[u8]) -> PinholeCamera
+pub(crate) fn camera(payload: &[u8]) -> PinholeCamera
     requires { length payload.now ≡ 40 }
     ensures { result ≡ Runs.camera payload.now }
 {
@@ -52,7 +52,7 @@ pub fn camera(payload: &[u8]) -> PinholeCamera
 }
 
 // What the pose's field carries and what the basis's does
-pub fn pose(pose: &[u8], basis: &[u8]) -> Pose
+pub(crate) fn pose(pose: &[u8], basis: &[u8]) -> Pose
     requires pose { length pose.now ≡ 96 }
     requires basis { length basis.now ≡ 56 }
     ensures { result ≡ Runs.pose pose.now basis.now }
@@ -66,7 +66,7 @@ pub fn pose(pose: &[u8], basis: &[u8]) -> Pose
 }
 
 // What a point's field carries
-pub fn correspondence(payload: &[u8]) -> Correspondence
+pub(crate) fn correspondence(payload: &[u8]) -> Correspondence
     requires { length payload.now ≡ 64 }
     ensures { result ≡ Runs.correspondence payload.now }
 {

@@ -42,7 +42,7 @@ fn is_whole(bytes: &[u8], start: usize, field: Field) -> bool
 
 // The bytes of a record that is not too long, and the place of the next field
 #[derive(Drop)]
-pub struct Reader<'a> {
+pub(crate) struct Reader<'a> {
     pub bytes: &'a [u8],
     pub at: usize,
     ghost fits: { length bytes.now ≤ Form.max_record },
@@ -53,7 +53,7 @@ impl<'a> Reader<'a> {
     ghost use Rattle.run_record.specs.Places as Places;
 
     // Whether no byte is left
-    pub fn is_at_end(&self) -> bool
+    pub(crate) fn is_at_end(&self) -> bool
         ensures { result ≡ eqb self.now.at (length self.now.bytes.now) }
     {
         self.at == self.bytes.len()
@@ -62,7 +62,7 @@ impl<'a> Reader<'a> {
     // The payload of the field at the reader's place, behind which the reader goes on. Row 15 where
     // that field is broken, and then the reader stays.
     #[tactic(auto, using(crate::proofs::Forms::field_fits))]
-    pub fn next_field(&mut self, field: Field) -> Result<&'a [u8], Refusal>
+    pub(crate) fn next_field(&mut self, field: Field) -> Result<&'a [u8], Refusal>
         ensures payload { let reader = self.old in
             Reads.bytes_of result ≡ Reads.field_at reader.bytes.now field reader.at }
         ensures size { IfOk result (λ payload. length payload.now ≡ Fields.size field) }

@@ -1,4 +1,5 @@
--- The cross Hessian times the inverse times its transpose, by the inverse times each of its rows. Assumes nothing.
+-- The cross Hessian times the inverse times its transpose, by the inverse times each of its
+-- rows. Assumes nothing.
 use mathlib.Core.Path.{◌≡◌, refl, ap, ◌∙◌}
 use mathlib.Core.List.{List, [], ◌∷◌}
 use Prim.Native.Nat.{ℕ}

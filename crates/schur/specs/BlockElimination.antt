@@ -1,4 +1,5 @@
--- What a block makes of a system's equations once its point is eliminated, and what it shows of itself: `add` of schur.rs. Document 01, "The system".
+-- What a block makes of a system's equations once its point is eliminated, and what it shows of
+-- itself: `add` of schur.rs. Document 01, "The system".
 use Rattle.std.specs.Prelude.{Bool, true, false, ◌&&◌, cond, List, Float, Ok, Err}
 use Rattle.numerics.specs.Extrema.{min}
 use Rattle.numerics.specs.Binary64.{zero}
@@ -10,7 +11,8 @@ use Rattle.schur.specs.Elimination.{reduced_hessian, reduced_gradient, point_red
 use Rattle.schur.specs.declared.reduced_system.ReducedSystem.{ReducedSystem}
 use Rattle.schur.specs.declared.elimination.block_elimination.Change.{Change}
 
--- a block that does not factor leaves the equations alone; at damping zero only it is weak, with an rcond of 0
+-- a block that does not factor leaves the equations alone; at damping zero only it is weak, with
+-- an rcond of 0
 unfoldable pub not_eliminated : ReducedSystem → Bool → Change
 not_eliminated s at_zero = record {
   hessian = s.hessian;

@@ -1,4 +1,5 @@
--- What a block that factors adds to the equations of the pose once its point is eliminated, by the block's packed inverse: `add` of schur.rs.
+-- What a block that factors adds to the equations of the pose once its point is eliminated, by
+-- the block's packed inverse: `add` of schur.rs.
 use Rattle.std.specs.Prelude.{ℕ, ◌+◌, ◌*◌, ◌/◌, ◌%◌, List, Float}
 use Rattle.numerics.specs.Binary64.{◌⊕◌, ◌⊖◌, ◌⊗◌, half}
 use Rattle.numerics.specs.Vectors.{◌!◌, tabulate}
@@ -16,7 +17,8 @@ cross_row cross i = tabulate 3 (λ j. cross ! (3 * i + j))
 unfoldable pub inverse_gradient : List Float → LocalLinearization → List Float
 inverse_gradient inverse b = solve inverse b.point_gradient
 
--- the cross Hessian times the inverse times its transpose: at row i and column j, row i times the inverse times row j
+-- the cross Hessian times the inverse times its transpose: at row i and column j, row i times
+-- the inverse times row j
 unfoldable pub schur_term : List Float → List Float → List Float
 schur_term inverse cross = tabulate 25 (λ k. dot3 (cross_row cross (k / 5)) (solve inverse (cross_row cross (k % 5))))
 

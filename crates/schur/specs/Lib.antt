@@ -1,9 +1,4 @@
--- The quadratic model of the pose's five equations: schur.rs.
--- The largest entry of a gradient, scaled: schur.rs.
--- Module 5 of document 01: `ReducedSystem` of schur.rs.
--- What a block adds to the equations of the pose: schur.rs.
--- The step of a point: schur.rs.
--- schur.
+-- The reduced system, `add` and the point step: schur.rs.
 pub mod PoseModel
 pub mod PoseDamping
 pub mod GradientNorm

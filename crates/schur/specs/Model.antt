@@ -1,4 +1,5 @@
--- A new system, and what is asked of one once all blocks are taken in: `new`, `finish_damping`, `is_valid`, `scaled_gradient_inf_norm` and `predicted_reduction` of schur.rs.
+-- A new system, and what is asked of one once all blocks are taken in: `new`, `finish_damping`,
+-- `is_valid`, `scaled_gradient_inf_norm` and `predicted_reduction` of schur.rs.
 use Rattle.std.specs.Prelude.{Bool, true, ◌&&◌, cond, List, Float, Result, Ok, Err}
 use Rattle.numerics.specs.Extrema.{max}
 use Rattle.numerics.specs.Binary64.{◌⊕◌, ◌⊖◌, ◌⊗◌, zero, half, one}

@@ -26,7 +26,8 @@ Free s = (s.block_count < max_blocks) × (s.weak_point_count ≤ s.block_count)
 abbrev pub raised : Bool → ℕ → ℕ
 raised b n = cond b (suc n) n
 
--- The system with the block's costs, pose terms and gradient norm taken in, as every block is, and with what the elimination of its point changes. A block that does not factor
+-- The system with the block's costs, pose terms and gradient norm taken in, as every block is,
+-- and with what the elimination of its point changes. A block that does not factor
 -- clears the flag.
 unfoldable pub taken_with : ReducedSystem → LocalLinearization → Change → ℕ → ReducedSystem
 taken_with s b e weak = record {
@@ -62,6 +63,7 @@ add s b damping =
     (cond (leb s.weak_point_count s.block_count) (cond (ltb s.block_count max_blocks) (Ok (taken s b damping)) (Err Full)) (Err WeakCount))
     (Err Damping)
 
--- the system that a call leaves its caller with, the values of its answer: the one handed back, and, where it is refused, the one that the caller had
+-- the system that a call leaves its caller with, the values of its answer: the one handed back,
+-- and, where it is refused, the one that the caller had
 abbrev pub handed_back : ReducedSystem → Result ReducedSystem Refusal → ReducedSystem
 handed_back s r = (answer s r).values

@@ -1,7 +1,8 @@
 // SPDX-FileCopyrightText: 2026 Pierre Moulon and OpenMVG Rust contributors
 // SPDX-License-Identifier: MIT OR Apache-2.0
 
-// The reduced system of the two-view problem, kernel/two_view/schur.rs: `reduced_add` takes a block in,
+// The reduced system of the two-view problem, kernel/two_view/schur.rs: `reduced_add` takes a
+// block in,
 // with its point eliminated; `point_step` says how that point moves with a step of the pose.
 #![tactic(auto)]
 
@@ -9,7 +10,7 @@ pub mod elimination;
 mod gradient_norm;
 pub mod point_step;
 mod pose_model;
-pub mod reduced_add;
+mod reduced_add;
 pub mod reduced_system;
 
 pub use reduced_add::{OpenSystem, add, add_to};

@@ -1,7 +1,8 @@
 // SPDX-FileCopyrightText: 2026 Pierre Moulon and OpenMVG Rust contributors
 // SPDX-License-Identifier: MIT OR Apache-2.0
 
-// How a point moves with a step of the pose: `point_step_with_damping_norm` of kernel/two_view/schur.rs.
+// How a point moves with a step of the pose: `point_step_with_damping_norm` of
+// kernel/two_view/schur.rs.
 
 ghost use Rattle.std.specs.Prelude.{◌≡◌, ◌<◌};
 ghost use Rattle.refusal.specs.Answer.{answer};
@@ -48,7 +49,7 @@ pub fn damped_step(
     ensures answer { answer Steps.no_step result
         ≡ answer Steps.no_step (Steps.damped_step terms damping pose_step) }
 {
-    let factor = PointBlockFactor::factor(terms.point_hessian, damping.value())?;
+    let factor = PointBlockFactor::factor(terms.point_hessian, damping)?;
     Ok(stepped(factor, terms, pose_step))
 }
 

@@ -1,7 +1,8 @@
 // SPDX-FileCopyrightText: 2026 Pierre Moulon and OpenMVG Rust contributors
 // SPDX-License-Identifier: MIT OR Apache-2.0
 
-// The quadratic model of the pose's five equations, of kernel/two_view/schur.rs: what a step is predicted
+// The quadratic model of the pose's five equations, of kernel/two_view/schur.rs: what a step is
+// predicted
 // to gain, undamped; and the damping of those equations.
 
 mod damping;

@@ -1,7 +1,8 @@
 // SPDX-FileCopyrightText: 2026 Pierre Moulon and OpenMVG Rust contributors
 // SPDX-License-Identifier: MIT OR Apache-2.0
 
-// A block taken into the reduced system, with its point eliminated: `add` of kernel/two_view/schur.rs.
+// A block taken into the reduced system, with its point eliminated: `add` of
+// kernel/two_view/schur.rs.
 
 ghost use Rattle.std.specs.Prelude.{◌≡◌, ◌<◌};
 ghost use Rattle.std.specs.Result.{result_err};
@@ -54,7 +55,8 @@ pub fn add(
     Ok(system.with_block(local, damping))
 }
 
-/// The same on a system that its owner lends, as the Rust's `add(&mut self)` does; refused, it leaves
+/// The same on a system that its owner lends, as the Rust's `add(&mut self)` does; refused, it
+/// leaves
 /// the system unchanged.
 pub fn add_to(
     system: &mut ReducedSystem,
@@ -69,8 +71,8 @@ pub fn add_to(
 }
 
 impl OpenSystem {
-    /// Rows 12 and 13
-    pub fn new(system: ReducedSystem) -> Result<Self, Refusal>
+    // Rows 12 and 13
+    fn new(system: ReducedSystem) -> Result<Self, Refusal>
         ensures { result ≡ System.open_system system }
     {
         if system.weak_point_count > system.block_count {

@@ -1,7 +1,8 @@
 // SPDX-FileCopyrightText: 2026 Pierre Moulon and OpenMVG Rust contributors
 // SPDX-License-Identifier: MIT OR Apache-2.0
 
-// The reduced system: the 5 by 5 equations of the pose once each point is eliminated, `ReducedSystem` of
+// The reduced system: the 5 by 5 equations of the pose once each point is eliminated,
+// `ReducedSystem` of
 // kernel/two_view/schur.rs. Here is what is asked of it; `reduced_add` takes blocks in.
 
 ghost use Rattle.std.specs.Prelude.{◌≡◌};

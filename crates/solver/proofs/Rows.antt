@@ -1,4 +1,5 @@
--- The lower triangle as two loops write it, row by row and entry by entry, which is the one of the definition. Assumes nothing.
+-- The lower triangle as two loops write it, row by row and entry by entry, which is the one of
+-- the definition. Assumes nothing.
 use mathlib.Core.Path.{◌≡◌, refl}
 use mathlib.Core.Bool.{cond}
 use mathlib.Core.List.{List}

@@ -44,10 +44,12 @@ pasted out at text = take at out ++ text ++ drop (at + length text) out
 abbrev pub fitting : List ℕ → ℕ → List ℕ → List ℕ
 fitting out at text = take (length out - at) text
 
--- what a call leaves that puts a text into out from an offset on, as much of it as fits: the next offset, and out
+-- what a call leaves that puts a text into out from an offset on, as much of it as fits: the
+-- next offset, and out
 unfoldable pub Put : List ℕ → ℕ → List ℕ → ℕ → List ℕ → Type 0
 Put text at out next after = (next ≡ at + length (fitting out at text)) × (after ≡ pasted out at (fitting out at text))
 
--- what a call leaves that puts a text into a writer's buffer: the same buffer, with the text in it from the place on
+-- what a call leaves that puts a text into a writer's buffer: the same buffer, with the text in
+-- it from the place on
 unfoldable pub Wrote : List ℕ → Writer → Writer → Type 0
 Wrote text old new = (new.out.ghost_name ≡ old.out.ghost_name) × Put text old.at old.out.now new.at new.out.now

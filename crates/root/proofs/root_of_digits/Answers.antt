@@ -1,4 +1,5 @@
--- `root::root_of_digits` meets its contract: an odd power leaves a factor of two to the digits. Assumes nothing.
+-- `root::root_of_digits` meets its contract: an odd power leaves a factor of two to the digits.
+-- Assumes nothing.
 use mathlib.Core.Path.{◌≡◌, sym, ap, subst, ◌∙◌}
 use mathlib.Core.Logic.{◌⊎◌, inl, inr}
 use Prim.Native.Nat.{ℕ, ◌+◌, ◌*◌, ◌/◌, ◌%◌, ◌^◌, ◌≤◌, ◌<◌}

@@ -1,4 +1,5 @@
--- `root::root_of_pattern` meets its contract: a subnormal pattern's digits are moved up to 53 of them, and the power of two beside them goes down as far. Assumes nothing.
+-- `root::root_of_pattern` meets its contract: a subnormal pattern's digits are moved up to 53 of
+-- them, and the power of two beside them goes down as far. Assumes nothing.
 use mathlib.Core.Path.{◌≡◌, sym, ap, ◌∙◌}
 use Prim.Native.Nat.{ℕ, suc, ◌+◌, ◌-◌, ◌*◌, ◌/◌, ◌%◌, ◌^◌, ◌≤◌, ◌<◌}
 use native.Mathlib.Nat.{le_trans, le_of_eq, lt_of_lt_of_le, mul_assoc, mul-pos, add_comm, mul-le-mul_right, mul-lt-mul_of_pos_right, mod-eq_of_lt, lt_of_not-le, lt_irrefl}
@@ -12,7 +13,8 @@ use Rattle.root.proofs.Patterns.{low_value, normal_value}
 use Rattle.root.proofs.Rounded.{sqrt_of}
 use Rattle.root.proofs.root_of_pattern.Goals as goal
 
--- what the count of leading zeros gives for a pattern below 2 ^ 52: moved up by z - 11 places, it has 53 digits
+-- what the count of leading zeros gives for a pattern below 2 ^ 52: moved up by z - 11 places,
+-- it has 53 digits
 record Moved (b z : ℕ) : Type 0 where
   enough : 11 ≤ z
   few : z ≤ 63

@@ -1,4 +1,5 @@
--- `root::sqrt` meets its contract: what lies above zero and is finite goes by its pattern, and every other value by cases. Assumes nothing.
+-- `root::sqrt` meets its contract: what lies above zero and is finite goes by its pattern, and
+-- every other value by cases. Assumes nothing.
 use mathlib.Core.Path.{◌≡◌, refl, sym, ap, subst, ◌∙◌}
 use mathlib.Core.Bool.{Bool, true, false, not, cond, false≢true}
 use Prim.Native.Nat.{ℕ, zero, suc, ◌+◌, ◌*◌, ◌/◌, ◌%◌, ◌^◌, ◌≤◌, ◌<◌, zero-le}

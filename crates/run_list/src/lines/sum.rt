@@ -8,7 +8,7 @@ use schur::reduced_system::ReducedSystem;
 use text::Writer;
 
 // `sum`, cost and squared residual bits, weak count, validity, verdict
-pub fn put_sum(writer: &mut Writer, system: ReducedSystem)
+pub(crate) fn put_sum(writer: &mut Writer, system: ReducedSystem)
     ensures { Text.Wrote (SumLine.sum_line system) writer.old writer.new }
 {
     let valid = system.is_valid();

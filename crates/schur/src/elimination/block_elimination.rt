@@ -32,7 +32,7 @@ pub(crate) fn eliminate(
 ) -> Change
     ensures { result ≡ BlockElimination.eliminate system local damping }
 {
-    match PointBlockFactor::factor(local.point_hessian, damping.value()) {
+    match PointBlockFactor::factor(local.point_hessian, damping) {
         Ok(factor) => eliminated(system, local, damping, factor),
         Err(_) => not_eliminated(system, damping.is_zero()),
     }
