@@ -8,16 +8,11 @@ use native.Mathlib.Omega.{arith}
 use borrow.Author.Tests.{ltb-false}
 use lib.IntN.{pos}
 use lib.Dec.{T}
-use lib.Ieee.{Float, nan, inf, fin, Format, binary32, binary64, up, down, neg, sub, lt, fits, of_bits}
+use lib.Ieee.{Float, nan, inf, fin, Format, up, down, neg, sub, lt, fits, of_bits}
 use lib.Ieee.Fits.{down_pos, neg-fits}
 use Rattle.std.specs.Float.{float_is_finite}
 use Rattle.numerics.specs.Parts.{is_finite, abs}
-use Rattle.numerics.proofs.Values.{round_value}
-
-zero_is : (f : Format) → of_bits f 0 ≡ fin false 0 (pos 0)
-unfolding of_bits
-zero_is binary32 = refl
-zero_is binary64 = refl
+use Rattle.numerics.proofs.Values.{zero_is, round_value}
 
 -- ---- the absolute value
 

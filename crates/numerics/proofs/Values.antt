@@ -2,13 +2,13 @@
 -- size (`same_value`).
 -- So a fraction of that size is rounded to it (`round_value`). Assumes nothing.
 use mathlib.Core.Path.{◌≡◌, refl, sym, ap, ap₂, ◌∙◌, subst₂}
-use mathlib.Core.Bool.{Bool, ◌&&◌, cond}
+use mathlib.Core.Bool.{Bool, false, ◌&&◌, cond}
 use Prim.Native.Nat.{ℕ, zero, suc, ◌+◌, ◌-◌, ◌*◌, ◌/◌, ◌%◌, ◌^◌, ◌≤◌, ◌<◌}
 use native.Mathlib.Nat.{le_trans, le_of_eq, le_of_suc-le-suc, lt_of_not-le, not-le_of_lt, mul_assoc, mul_comm, mul_right_comm, zero-mul, mul-one, one-mul, mul-pos, mul-le-mul_right, mul-lt-mul_of_pos_right, lt_of_mul-lt-mul_right, eq_of_mul-eq-mul_right}
 use lib.IntN.{ℤ, pos, negsuc}
 use lib.Dec.{T, leb, ltb, eqb, eqb→eq, leb→le, ltb→lt}
 use lib.Pow.{pow-add, pow_pos, pow-lt}
-use lib.Ieee.{Float, nan, inf, fin, Format, prec, emax, low, up, down, size, round, fits, hid, top, of_bits, to_bits}
+use lib.Ieee.{Float, nan, inf, fin, Format, binary32, binary64, prec, emax, low, up, down, size, round, fits, hid, top, of_bits, to_bits}
 use lib.Ieee.Bits.{of_bits-to_bits}
 use lib.Ieee.Digits.{back}
 use lib.Ieee.Exact.{HasValue, round_exact}
@@ -96,6 +96,11 @@ round_has f (fin t m e) s a c C p v =
 pub round_value : (f : Format) (x : Float) (s : Bool) (a c : ℕ) → 0 < c → T (fits f x) → HasValue x s a c → round f s a c ≡ x
 round_value f x s a c C p v = same_value f (round f s a c) x s a c C (round-fits f s a c) p (round_has f x s a c C p v) v
 
--- a zero
+-- +0, and what a fraction of 0 is rounded to
+pub zero_is : (f : Format) → of_bits f 0 ≡ fin false 0 (pos 0)
+unfolding of_bits
+zero_is binary32 = refl
+zero_is binary64 = refl
+
 pub round_zero : (f : Format) (s : Bool) (c : ℕ) → 0 < c → round f s 0 c ≡ fin s 0 (pos 0)
 round_zero f s c C = round_value f (fin s 0 (pos 0)) s 0 c C (unfold fits in tt) (refl, zero-mul c)

@@ -5,10 +5,14 @@ ghost use Rattle.std.specs.Prelude.{◌≡◌};
 ghost use Rattle.numerics.specs.Vectors as Vectors;
 
 /// Whether every entry is finite.
+// By one product from +0, with a multiplication for each entry and one comparison in all: 0 times
+// a finite number is a zero, and 0 times any other is a NaN, which stays. Always inlined, so that
+// the loop over an array's few entries is unrolled.
+#[inline(always)]
 pub fn all_finite(values: &[f64]) -> bool
     ensures { result ≡ Vectors.all_finite values.now }
 {
-    values.iter().all(|x| crate::is_finite(*x))
+    values.iter().fold(0.0, |product, x| product * *x) == 0.0
 }
 
 /// The sum of the products of the entries, one by one from −0.

@@ -1,17 +1,15 @@
-use mathlib.Core.Path.{refl, ◌∙◌}
-use mathlib.Core.Bool.{◌&&◌}
-use Rattle.std.proofs.Common.{rules, tests}
+use mathlib.Core.Path.{ap, ◌∙◌}
+use lib.Ieee.{Float, binary64, mul, eq}
+use Rattle.std.proofs.Common.{rules}
 use Rattle.std.proofs.lemmas.Iterator.{YieldsList-from_slice}
-use Rattle.std.proofs.lemmas.Iterator.Search.{all_from_yields_List}
-use Rattle.std.proofs.lemmas.List.Recursion.{same_from_clauses}
-use Rattle.std.specs.List.{list_all}
-use Rattle.numerics.specs.Parts.{is_finite}
-use Rattle.numerics.specs.Vectors.{all_finite}
+use Rattle.std.proofs.lemmas.Iterator.Consumers.{fold_from_yields_List}
+use Rattle.numerics.specs.Binary64.{zero}
+use Rattle.numerics.proofs.Finite.{product_tells_all}
 use Rattle.numerics.proofs.vectors.all_finite.Goals as goal
 
 pub returns : goal.returns
-unfolding all_finite
 returns c =
     let l = c.args.values.now in
-    all_from_yields_List is_finite _ _ _ c.all.ensures.ran (YieldsList-from_slice l cc) (λ x b q k. search (rules, tests))
-    ∙ same_from_clauses (list_all is_finite) all_finite (λ x b. is_finite x && b) refl (λ x xs. refl) (λ x xs. refl) l
+    ap (λ (p : Float). eq p zero)
+    (fold_from_yields_List _ (mul binary64) zero c.fold.result c.fold.ensures.ran (YieldsList-from_slice l cc) (λ p x q f k. search rules))
+    ∙ product_tells_all binary64 l
