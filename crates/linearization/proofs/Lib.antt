@@ -1,2 +1,3 @@
 -- Laws of the block maker.
 pub mod Costs
+pub mod Tested

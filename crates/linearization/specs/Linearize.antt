@@ -1,12 +1,13 @@
 -- `linearize_point` of schur.rs with `Loss::L2`, the block maker of document 01: both views or
 -- their refusal, then the block.
-use Rattle.std.specs.Prelude.{List, Float, Result, Ok}
+use Rattle.std.specs.Prelude.{List, Float, Result, Ok, is_ok}
 use Rattle.std.specs.Result.{result_and}
 use Rattle.numerics.specs.Binary64.{◌⊕◌, ◌⊗◌, zero}
 use Rattle.numerics.specs.Vectors.{tabulate, zeros}
 use Rattle.refusal.specs.Answer.{answer}
 use Rattle.refusal.specs.declared.Refusal.{Refusal}
 use Rattle.linearization.specs.declared.linearize.LocalLinearization.{LocalLinearization}
+use Rattle.linearization.specs.declared.linearize.TestedBlock.{TestedBlock}
 use Rattle.linearization.specs.declared.terms.PointTerms.{PointTerms}
 use Rattle.linearization.specs.declared.views.Rig.{Rig}
 use Rattle.linearization.specs.declared.views.Correspondence.{Correspondence}
@@ -74,6 +75,10 @@ block_of rig correspondence = block (views_of rig correspondence) correspondence
 -- row 4, then row 9 with view 1 or 2, then the block
 unfoldable pub linearize_point : Rig → Correspondence → Result LocalLinearization Refusal
 linearize_point rig correspondence = result_and (check_views rig correspondence) (Ok (block_of rig correspondence))
+
+-- the formulas' block, and whether it is refused
+abbrev pub tested_block : Rig → Correspondence → TestedBlock
+tested_block rig correspondence = record { block = block_of rig correspondence; accepted = is_ok (check_views rig correspondence) }
 
 -- the same terms of a block that is made
 unfoldable pub point_terms : LocalLinearization → PointTerms

@@ -1,7 +1,6 @@
 -- The two views of a point in `linearize_point` of schur.rs: row 4, then row 9 with view 1 or 2,
 -- then the weighted rows of each view.
-use Rattle.std.specs.Prelude.{ℕ, Bool, not, ◌&&◌, List, [], ◌∷◌, Float, Result, Ok, is_ok}
-use Rattle.std.specs.Result.{result_and}
+use Rattle.std.specs.Prelude.{ℕ, Bool, not, ◌&&◌, List, [], ◌∷◌, Float, is_ok}
 use Rattle.std.specs.Float.Ieee.{le}
 use Rattle.numerics.specs.Binary64.{◌⊗◌, zero}
 use Rattle.numerics.specs.Parts.{is_finite}
@@ -19,6 +18,7 @@ use Rattle.linearization.specs.declared.views.Correspondence.{Correspondence}
 use Rattle.linearization.specs.declared.views.View1.{View1}
 use Rattle.linearization.specs.declared.views.View2.{View2}
 use Rattle.linearization.specs.declared.views.LinearizedViews.{LinearizedViews}
+use Rattle.linearization.specs.declared.views.TestedViews.{TestedViews}
 use Rattle.linearization.specs.Loss.{row_weight}
 use Rattle.linearization.specs.Jacobians.{pose_motion_jacobian, pose_jacobian, point_jacobian}
 
@@ -85,5 +85,6 @@ check_views rig correspondence =
     ∷ unless (is_ok (pixel_projection rig.camera2 correspondence.view2 (moved rig correspondence))) (Projection Second 0)
     ∷ [])
 
-unfoldable pub linearize_views : Rig → Correspondence → Result LinearizedViews Refusal
-linearize_views rig correspondence = result_and (check_views rig correspondence) (Ok (views_of rig correspondence))
+-- the formulas' views, and whether they are refused
+abbrev pub tested_views : Rig → Correspondence → TestedViews
+tested_views rig correspondence = record { views = views_of rig correspondence; accepted = is_ok (check_views rig correspondence) }

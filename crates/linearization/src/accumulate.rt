@@ -12,6 +12,7 @@ use std::array;
 
 // Column k of both views' rows, where a row has N / 2 numbers
 #[tactic(auto, unfolding(crate::specs::Accumulate::column))]
+#[inline(always)]
 fn column<const N: usize>(a: [f64; N], b: [f64; N], k: usize) -> [f64; 4]
     requires { k < N / 2 }
     ensures { result ≡ Accumulate.column (N / 2) a.entry b.entry k }
@@ -21,6 +22,7 @@ fn column<const N: usize>(a: [f64; N], b: [f64; N], k: usize) -> [f64; 4]
 
 // The sum begins at +0.
 #[tactic(auto, unfolding(crate::specs::Accumulate::product))]
+#[inline(always)]
 fn product(x: [f64; 4], y: [f64; 4]) -> f64
     ensures { result ≡ Accumulate.product x y }
 {
@@ -29,6 +31,7 @@ fn product(x: [f64; 4], y: [f64; 4]) -> f64
 
 // Filled row by row: number by number it took ten times as long, and so did the next.
 #[tactic(auto, using(numerics::proofs::Fill::array_none, numerics::proofs::Fill::row_of_five))]
+#[inline(always)]
 pub(crate) fn pose_hessian(a: [f64; 10], b: [f64; 10]) -> [f64; 25]
     ensures { result ≡ Accumulate.pose_hessian a b }
 {
@@ -50,6 +53,7 @@ pub(crate) fn pose_hessian(a: [f64; 10], b: [f64; 10]) -> [f64; 25]
 }
 
 #[tactic(auto, using(numerics::proofs::Fill::array_none, numerics::proofs::Fill::row_of_three))]
+#[inline(always)]
 pub(crate) fn cross_hessian(a: [f64; 10], p: [f64; 6], b: [f64; 10], q: [f64; 6]) -> [f64; 15]
     ensures { result ≡ Accumulate.cross_hessian a p b q }
 {
@@ -67,6 +71,7 @@ pub(crate) fn cross_hessian(a: [f64; 10], p: [f64; 6], b: [f64; 10], q: [f64; 6]
 }
 
 #[tactic(auto, unfolding(crate::specs::Accumulate::point_hessian))]
+#[inline(always)]
 pub(crate) fn point_hessian(p: [f64; 6], q: [f64; 6]) -> [f64; 9]
     ensures { result ≡ Accumulate.point_hessian p q }
 {
@@ -74,6 +79,7 @@ pub(crate) fn point_hessian(p: [f64; 6], q: [f64; 6]) -> [f64; 9]
 }
 
 #[tactic(auto, unfolding(crate::specs::Accumulate::pose_gradient))]
+#[inline(always)]
 pub(crate) fn pose_gradient(a: [f64; 10], u: [f64; 2], b: [f64; 10], v: [f64; 2]) -> [f64; 5]
     ensures { result ≡ Accumulate.pose_gradient a u b v }
 {
@@ -81,6 +87,7 @@ pub(crate) fn pose_gradient(a: [f64; 10], u: [f64; 2], b: [f64; 10], v: [f64; 2]
 }
 
 #[tactic(auto, unfolding(crate::specs::Accumulate::point_gradient))]
+#[inline(always)]
 pub(crate) fn point_gradient(p: [f64; 6], u: [f64; 2], q: [f64; 6], v: [f64; 2]) -> [f64; 3]
     ensures { result ≡ Accumulate.point_gradient p u q v }
 {

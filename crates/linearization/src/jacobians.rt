@@ -10,6 +10,7 @@ ghost use Rattle.linearization.specs.Jacobians as Jacobians;
 use std::array;
 
 // How the turned point moves with the pose: three rows of five
+#[inline(always)]
 pub(crate) fn pose_motion_jacobian(rotated: [f64; 3], basis: [f64; 6], baseline: f64) -> [f64; 15]
     ensures { result ≡ Jacobians.pose_motion_jacobian rotated basis baseline }
 {
@@ -34,6 +35,7 @@ pub(crate) fn pose_motion_jacobian(rotated: [f64; 3], basis: [f64; 6], baseline:
 
 // Two rows of the Jacobian times five columns of the motion
 #[tactic(auto, unfolding(crate::specs::Jacobians::pose_jacobian))]
+#[inline(always)]
 pub(crate) fn pose_jacobian(j: [f64; 6], m: [f64; 15]) -> [f64; 10]
     ensures { result ≡ Jacobians.pose_jacobian j m }
 {
@@ -42,6 +44,7 @@ pub(crate) fn pose_jacobian(j: [f64; 6], m: [f64; 15]) -> [f64; 10]
 
 // Two rows of the Jacobian times the rotation, scaled by the baseline
 #[tactic(auto, unfolding(crate::specs::Jacobians::point_jacobian))]
+#[inline(always)]
 pub(crate) fn point_jacobian(j: [f64; 6], r: [f64; 9], baseline: f64) -> [f64; 6]
     ensures { result ≡ Jacobians.point_jacobian j r baseline }
 {
@@ -52,6 +55,7 @@ pub(crate) fn point_jacobian(j: [f64; 6], r: [f64; 9], baseline: f64) -> [f64; 6
 // columns; the
 // sum begins at −0.
 #[tactic(auto, unfolding(crate::specs::Jacobians::entry))]
+#[inline(always)]
 fn entry<const N: usize>(left: [f64; 6], right: [f64; N], row: usize, column: usize) -> f64
     requires row_in { row < 2 }
     requires column_in { column < N / 3 }

@@ -13,5 +13,5 @@ mod loss;
 mod terms;
 pub mod views;
 
-pub use linearize::{LocalLinearization, block_of, linearize_point};
+pub use linearize::{LocalLinearization, TestedBlock, block_of, linearize_point, tested_block};
 pub use terms::{PointTerms, terms_of};

@@ -7,7 +7,7 @@ ghost use Rattle.refusal.specs.Answer.{answer};
 ghost use Rattle.linearization.specs.Linearize as Linearize;
 
 use crate::terms::PointTerms;
-use crate::views::{Correspondence, LinearizedViews, Rig};
+use crate::views::{Correspondence, LinearizedViews, Rig, TestedViews};
 use crate::{accumulate, loss, terms, views};
 use refusal::Refusal;
 
@@ -23,34 +23,55 @@ pub struct LocalLinearization {
     pub squared_residual: f64,
 }
 
+/// A block by the formulas alone, beside whether rows 4 and 9 let its correspondence through
+#[derive(Clone, Copy)]
+pub struct TestedBlock {
+    pub block: LocalLinearization,
+    pub accepted: bool,
+}
+
 /// The block of a correspondence. Tests row 4, then row 9 with view 1 or 2.
-#[tactic(auto, unfolding(crate::specs::Linearize::linearize_point, crate::specs::Linearize::block_of, crate::specs::Views::linearize_views))]
+#[tactic(auto, unfolding(crate::specs::Linearize::linearize_point))]
 pub fn linearize_point(
-    rig: Rig,
+    rig: &Rig,
     correspondence: Correspondence,
 ) -> Result<LocalLinearization, Refusal>
-    ensures result { result ≡ Linearize.linearize_point rig correspondence }
+    ensures result { result ≡ Linearize.linearize_point rig.now correspondence }
     ensures answer { answer Linearize.no_block result
-        ≡ answer Linearize.no_block (Linearize.linearize_point rig correspondence) }
+        ≡ answer Linearize.no_block (Linearize.linearize_point rig.now correspondence) }
 {
-    let views = views::linearize_views(rig, correspondence)?;
-    Ok(block(views, correspondence.inverse_deviation))
+    let TestedBlock { block, accepted } = tested_block(rig, correspondence);
+    if !accepted {
+        views::check_views(rig, correspondence)?;
+    }
+    Ok(block)
+}
+
+/// The same with the verdict as a flag: a loop takes it by value, where a `Result` is copied.
+/// Inlined into the loop with all that it calls, so that the block stays where it is used.
+#[tactic(auto, unfolding(crate::specs::Linearize::block_of))]
+#[inline(always)]
+pub fn tested_block(rig: &Rig, correspondence: Correspondence) -> TestedBlock
+    ensures { result ≡ Linearize.tested_block rig.now correspondence }
+{
+    let TestedViews { views, accepted } = views::tested_views(rig, correspondence);
+    TestedBlock {
+        block: block(views, correspondence.inverse_deviation),
+        accepted,
+    }
 }
 
 /// The block of a correspondence by the formulas alone, for one that rows 4 and 9 are known to let
 /// through: there it is the block of `linearize_point`.
-#[tactic(auto, unfolding(crate::specs::Linearize::block_of))]
 pub fn block_of(rig: &Rig, correspondence: Correspondence) -> LocalLinearization
     ensures { result ≡ Linearize.block_of rig.now correspondence }
 {
-    block(
-        views::views_of(rig, correspondence),
-        correspondence.inverse_deviation,
-    )
+    tested_block(rig, correspondence).block
 }
 
 // The block of two views, with what each adds to the cost and to the squared residual
 #[tactic(auto, unfolding(crate::specs::Linearize::block))]
+#[inline(always)]
 fn block(views: LinearizedViews, inverse_deviation: f64) -> LocalLinearization
     ensures { result ≡ Linearize.block views inverse_deviation }
 {
@@ -63,6 +84,7 @@ fn block(views: LinearizedViews, inverse_deviation: f64) -> LocalLinearization
 }
 
 #[tactic(auto, unfolding(crate::specs::Linearize::sums))]
+#[inline(always)]
 fn sums(views: LinearizedViews, cost: f64, squared_residual: f64) -> LocalLinearization
     ensures { result ≡ Linearize.sums views cost squared_residual }
 {

@@ -9,6 +9,7 @@ ghost use Rattle.linearization.specs.Loss as Loss;
 use numerics::vectors;
 
 // The length of a residual; the sum begins at −0.
+#[inline(always)]
 pub(crate) fn norm(residual: [f64; 2]) -> f64
     ensures { result ≡ Loss.norm residual }
 {
@@ -17,6 +18,7 @@ pub(crate) fn norm(residual: [f64; 2]) -> f64
 
 // The weight of a view's rows: the inverse deviation times the root of the loss's weight. Plain
 // squares weigh every residual alike, by 1, so that its length is not worked out.
+#[inline(always)]
 pub(crate) fn row_weight(residual: [f64; 2], inverse_deviation: f64) -> f64
     ensures { result ≡ Loss.row_weight residual inverse_deviation }
 {
@@ -24,6 +26,7 @@ pub(crate) fn row_weight(residual: [f64; 2], inverse_deviation: f64) -> f64
 }
 
 // The loss's cost of a weighted residual length
+#[inline(always)]
 pub(crate) fn loss_cost(residual: f64) -> f64
     ensures { result ≡ Loss.loss_cost residual }
 {

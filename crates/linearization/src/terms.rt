@@ -20,10 +20,11 @@ pub struct PointTerms {
 
 /// The terms of the block that `block_of` makes of a correspondence
 #[tactic(auto, unfolding(crate::specs::Linearize::block_of, crate::specs::Linearize::point_terms, crate::specs::Linearize::block, crate::specs::Linearize::sums))]
+#[inline(always)]
 pub fn terms_of(rig: &Rig, correspondence: Correspondence) -> PointTerms
     ensures { result ≡ Linearize.point_terms (Linearize.block_of rig.now correspondence) }
 {
-    let views = views::views_of(rig, correspondence);
+    let views = views::tested_views(rig, correspondence).views;
     terms(views.first, views.second)
 }
 
@@ -49,6 +50,7 @@ impl From<LocalLinearization> for PointTerms {
 
 // The terms of both views; those of view 1 by the pose are all alike.
 #[tactic(auto, unfolding(crate::specs::Linearize::terms))]
+#[inline(always)]
 pub(crate) fn terms(first: View1, second: View2) -> PointTerms
     ensures { result ≡ Linearize.terms first second }
 {

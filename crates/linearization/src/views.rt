@@ -67,19 +67,49 @@ pub struct LinearizedViews {
     pub residual2: [f64; 2],
 }
 
-// Tests row 4, then row 9 with view 1 or 2, by `else` and not by `map_err`, which is slower here.
-#[tactic(auto, using(projection::proofs::Laws::projected_is), unfolding(crate::specs::Views::linearize_views, crate::specs::Views::check_views, crate::specs::Views::views_of))]
-pub(crate) fn linearize_views(
-    rig: Rig,
-    correspondence: Correspondence,
-) -> Result<LinearizedViews, Refusal>
-    ensures { result ≡ Views.linearize_views rig correspondence }
+// Both views by the formulas alone, beside whether rows 4 and 9 let them through
+#[derive(Clone, Copy)]
+pub(crate) struct TestedViews {
+    pub views: LinearizedViews,
+    pub accepted: bool,
+}
+
+// The tests are made together and give a flag: which row refuses is asked for where one does.
+#[tactic(auto, using(crate::proofs::Tested::accepted_is), unfolding(crate::specs::Views::views_of))]
+#[inline(always)]
+pub(crate) fn tested_views(rig: &Rig, correspondence: Correspondence) -> TestedViews
+    ensures { result ≡ Views.tested_views rig.now correspondence }
 {
-    let Rig {
-        camera1,
-        camera2,
-        pose,
-    } = rig;
+    let Correspondence {
+        point,
+        view1,
+        view2,
+        inverse_deviation,
+    } = correspondence;
+    let rotated = projection::rotate(rig.pose.rotation, point);
+    let moved = projection::camera_point(rotated, rig.pose.translation);
+    let first = projection::tested_projection(&rig.camera1, view1, point);
+    let second = projection::tested_projection(&rig.camera2, view2, moved);
+    let views = weighted_views(
+        first.projected,
+        second.projected,
+        rotated,
+        &rig.pose,
+        inverse_deviation,
+    );
+    TestedViews {
+        views,
+        accepted: good_deviation(inverse_deviation) & first.projectable & second.projectable,
+    }
+}
+
+// Row 4, then row 9 with view 1 or 2. Out of line, as it is asked only where one of them refuses.
+#[tactic(auto, unfolding(crate::specs::Views::check_views))]
+#[cold]
+#[inline(never)]
+pub(crate) fn check_views(rig: &Rig, correspondence: Correspondence) -> Result<(), Refusal>
+    ensures { result ≡ Views.check_views rig.now correspondence }
+{
     let Correspondence {
         point,
         view1,
@@ -89,45 +119,26 @@ pub(crate) fn linearize_views(
     if !good_deviation(inverse_deviation) {
         return Err(Refusal::InverseDeviation { index: 0 });
     }
-    let Ok(first) = projection::pixel_projection(camera1, view1, point) else {
+    if projection::pixel_projection(&rig.camera1, view1, point).is_err() {
         return Err(Refusal::Projection {
             view: View::First,
             index: 0,
         });
-    };
-    let rotated = projection::rotate(pose.rotation, point);
-    let moved = projection::camera_point(rotated, pose.translation);
-    let Ok(second) = projection::pixel_projection(camera2, view2, moved) else {
+    }
+    let rotated = projection::rotate(rig.pose.rotation, point);
+    let moved = projection::camera_point(rotated, rig.pose.translation);
+    if projection::pixel_projection(&rig.camera2, view2, moved).is_err() {
         return Err(Refusal::Projection {
             view: View::Second,
             index: 0,
         });
-    };
-    Ok(weighted_views(first, second, rotated, pose, inverse_deviation))
-}
-
-/// Both views by the formulas alone, for a correspondence that rows 4 and 9 are known to let
-/// through
-#[tactic(auto, unfolding(crate::specs::Views::views_of))]
-pub(crate) fn views_of(rig: &Rig, correspondence: Correspondence) -> LinearizedViews
-    ensures { result ≡ Views.views_of rig.now correspondence }
-{
-    let pose = rig.pose;
-    let rotated = projection::rotate(pose.rotation, correspondence.point);
-    let moved = projection::camera_point(rotated, pose.translation);
-    let first = projection::linearized(rig.camera1, correspondence.view1, correspondence.point);
-    let second = projection::linearized(rig.camera2, correspondence.view2, moved);
-    weighted_views(
-        first,
-        second,
-        rotated,
-        pose,
-        correspondence.inverse_deviation,
-    )
+    }
+    Ok(())
 }
 
 /// Row 4 lets an inverse deviation through that is finite and above 0.
 #[tactic(auto, unfolding(crate::specs::Views::good_deviation))]
+#[inline(always)]
 pub fn good_deviation(x: f64) -> bool
     ensures { result ≡ Views.good_deviation x }
 {
@@ -136,14 +147,15 @@ pub fn good_deviation(x: f64) -> bool
 
 // Two projections, the turned point, the pose and the inverse deviation
 #[tactic(auto, unfolding(crate::specs::Views::weighted_views))]
+#[inline(always)]
 fn weighted_views(
     first: Projected,
     second: Projected,
     rotated: [f64; 3],
-    pose: Pose,
+    pose: &Pose,
     inverse_deviation: f64,
 ) -> LinearizedViews
-    ensures { result ≡ Views.weighted_views first second rotated pose inverse_deviation }
+    ensures { result ≡ Views.weighted_views first second rotated pose.now inverse_deviation }
 {
     let residual1 = first.residual;
     let residual2 = second.residual;
@@ -158,15 +170,17 @@ fn weighted_views(
 }
 
 #[tactic(auto, unfolding(crate::specs::Views::first_rows))]
-fn first_rows(first: Projected, pose: Pose, weight: f64) -> View1
-    ensures { result ≡ Views.first_rows first pose weight }
+#[inline(always)]
+fn first_rows(first: Projected, pose: &Pose, weight: f64) -> View1
+    ensures { result ≡ Views.first_rows first pose.now weight }
 {
     first_view(first.residual, first.jacobian, pose.baseline, weight)
 }
 
 #[tactic(auto, unfolding(crate::specs::Views::second_rows))]
-fn second_rows(second: Projected, rotated: [f64; 3], pose: Pose, weight: f64) -> View2
-    ensures { result ≡ Views.second_rows second rotated pose weight }
+#[inline(always)]
+fn second_rows(second: Projected, rotated: [f64; 3], pose: &Pose, weight: f64) -> View2
+    ensures { result ≡ Views.second_rows second rotated pose.now weight }
 {
     let motion = jacobians::pose_motion_jacobian(rotated, pose.basis, pose.baseline);
     let by_pose = jacobians::pose_jacobian(second.jacobian, motion);
@@ -177,6 +191,7 @@ fn second_rows(second: Projected, rotated: [f64; 3], pose: Pose, weight: f64) ->
 // View 1 sees the point where it is, so the pose moves nothing: weight × 0, which shows where the
 // weight times a residual is infinite.
 #[tactic(auto, unfolding(crate::specs::Views::first_view))]
+#[inline(always)]
 fn first_view(residual: [f64; 2], j: [f64; 6], baseline: f64, weight: f64) -> View1
     ensures { result ≡ Views.first_view residual j baseline weight }
 {
@@ -188,6 +203,7 @@ fn first_view(residual: [f64; 2], j: [f64; 6], baseline: f64, weight: f64) -> Vi
 }
 
 #[tactic(auto, unfolding(crate::specs::Views::second_view))]
+#[inline(always)]
 fn second_view(residual: [f64; 2], by_pose: [f64; 10], by_point: [f64; 6], weight: f64) -> View2
     ensures { result ≡ Views.second_view residual by_pose by_point weight }
 {
@@ -199,6 +215,7 @@ fn second_view(residual: [f64; 2], by_pose: [f64; 10], by_point: [f64; 6], weigh
 }
 
 // Each number times the weight
+#[inline(always)]
 fn weigh<const N: usize>(numbers: [f64; N], weight: f64) -> [f64; N]
     ensures { result ≡ Views.weighted N weight numbers.entry }
 {

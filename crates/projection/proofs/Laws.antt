@@ -1,10 +1,11 @@
 -- What holds of every projection. Assumes nothing.
-use mathlib.Core.Path.{◌≡◌, refl}
-use mathlib.Core.Bool.{Bool, true, false, cond}
+use mathlib.Core.Path.{◌≡◌, refl, sym, ap}
+use mathlib.Core.Bool.{Bool, true, false, ◌&&◌, cond}
 use mathlib.Core.List.{List}
 use lib.Dec.{T}
 use lib.Ieee.{Float}
-use Rattle.std.specs.Prelude.{Ok, Err}
+use Rattle.std.specs.Prelude.{Result, Ok, Err, is_ok}
+use Rattle.refusal.specs.declared.Refusal.{Refusal}
 use Rattle.refusal.specs.declared.Refusal.TheVariants.{LoneProjection}
 use Rattle.projection.specs.declared.PinholeCamera.{PinholeCamera}
 use Rattle.projection.specs.declared.Projected.{Projected}
@@ -40,3 +41,33 @@ projection_finite camera observation point p = by (in_front point) (all_finite q
     by true true e h = let k : q ≡ p = cc in rw (← k, e) tt
     by true false e h = cc
     by false g e h = cc
+
+-- what is let through, and by which tests
+module _ (camera : PinholeCamera) (observation point : List Float) where
+  abbrev tested : Projected
+  tested = linearized camera observation point
+
+  pub projectable_is : (in_front point && all_finite tested) ≡ is_ok (pixel_projection camera observation point)
+  unfolding pixel_projection
+  projectable_is = by (in_front point) (all_finite tested)
+    where
+      by : (f g : Bool) → (f && g) ≡ is_ok (cond f (cond g (Ok tested) (Err LoneProjection)) (Err LoneProjection))
+      by true true = refl
+      by true false = refl
+      by false g = refl
+
+  pub let_through : is_ok (pixel_projection camera observation point) ≡ true → Ok tested ≡ pixel_projection camera observation point
+  let_through = by (pixel_projection camera observation point) refl
+    where
+      by : (r : Result Projected Refusal) → pixel_projection camera observation point ≡ r → is_ok r ≡ true → Ok tested ≡ r
+      by (Ok p) e t = ap Ok (sym (projected_is camera observation point p e))
+      by (Err r) e t = absurd (cc)
+
+  pub refused : is_ok (pixel_projection camera observation point) ≡ false → Err LoneProjection ≡ pixel_projection camera observation point
+  unfolding pixel_projection
+  refused = by (in_front point) (all_finite tested)
+    where
+      by : (f g : Bool) → is_ok (cond f (cond g (Ok tested) (Err LoneProjection)) (Err LoneProjection)) ≡ false → Err LoneProjection ≡ cond f (cond g (Ok tested) (Err LoneProjection)) (Err LoneProjection)
+      by true true t = absurd (cc)
+      by true false t = refl
+      by false g t = refl

@@ -1,5 +1,5 @@
 -- `pixel_projection` of projection.rs, operation by operation in the Rust's order and association.
-use Rattle.std.specs.Prelude.{Bool, not, ◌&&◌, cond, List, [], ◌∷◌, Float, Result, Ok, Err}
+use Rattle.std.specs.Prelude.{Bool, not, ◌&&◌, cond, List, [], ◌∷◌, Float, Result, Ok, Err, is_ok}
 use Rattle.std.specs.Float.Ieee.{neg, le}
 use Rattle.numerics.specs.Binary64.{◌⊕◌, ◌⊖◌, ◌⊗◌, zero, epsilon64, recip}
 use Rattle.numerics.specs.Parts.{is_finite, abs}
@@ -9,6 +9,7 @@ use Rattle.refusal.specs.declared.Refusal.{Refusal}
 use Rattle.refusal.specs.declared.Refusal.TheVariants.{LoneProjection}
 use Rattle.projection.specs.declared.PinholeCamera.{PinholeCamera}
 use Rattle.projection.specs.declared.Projected.{Projected}
+use Rattle.projection.specs.declared.TestedProjection.{TestedProjection}
 
 -- every coordinate is finite, and the depth is not at or below 64ε times the largest absolute
 -- coordinate
@@ -51,3 +52,10 @@ unfoldable pub pixel_projection : PinholeCamera → List Float → List Float �
 pixel_projection camera observation point =
     let p = linearized camera observation point in
     cond (in_front point) (cond (all_finite p) (Ok p) (Err LoneProjection)) (Err LoneProjection)
+
+-- the formulas' numbers, and whether they are refused
+abbrev pub tested_projection : PinholeCamera → List Float → List Float → TestedProjection
+tested_projection camera observation point = record {
+  projected = linearized camera observation point;
+  projectable = is_ok (pixel_projection camera observation point);
+}

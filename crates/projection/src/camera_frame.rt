@@ -17,6 +17,7 @@ pub fn non_finite_pose_is_not_projectable()
 
 /// The point turned by the rotation, which is given by rows.
 #[tactic(auto, unfolding(crate::specs::Pose::rotate))]
+#[inline(always)]
 pub fn rotate(rotation: [f64; 9], point: [f64; 3]) -> [f64; 3]
     ensures { result ≡ Pose.rotate rotation point }
 {
@@ -28,6 +29,7 @@ pub fn rotate(rotation: [f64; 9], point: [f64; 3]) -> [f64; 3]
 
 /// The rotated point in the second camera's frame.
 #[tactic(auto, unfolding(crate::specs::Pose::camera_point))]
+#[inline(always)]
 pub fn camera_point(rotated: [f64; 3], translation: [f64; 3]) -> [f64; 3]
     ensures { result ≡ Pose.camera_point rotated translation }
 {

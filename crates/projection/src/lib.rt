@@ -4,9 +4,12 @@
 //! The projection of a point into one camera: the pixel half of kernel/projection.rs, with
 //! `PinholeCamera` of kernel/camera.rs, and a point's place in the second camera's frame.
 //!
-//! `pixel_projection` gives the residual and the Jacobian of a point, or refuses it; `linearized`
-//! gives them by the formulas alone. `rotate` and `camera_point` move a point into the second
-//! camera's frame.
+//! `pixel_projection` gives the residual and the Jacobian of a point, or refuses it;
+//! `tested_projection` gives them by the formulas alone, beside whether they are refused. `rotate`
+//! and `camera_point` move a point into the second camera's frame.
+//!
+//! All of it is inlined into the loops over points, so that a camera, a point and what becomes of
+//! it stay in registers: of a chain of calls that hand arrays on, every link has to be.
 #![tactic(auto)]
 
 mod camera_frame;
@@ -37,27 +40,55 @@ pub struct Projected {
     pub jacobian: [f64; 6],
 }
 
+/// A projection by the formulas alone, whose entries may be infinite or a NaN, beside whether
+/// `pixel_projection` lets it through
+#[derive(Clone, Copy)]
+pub struct TestedProjection {
+    pub projected: Projected,
+    pub projectable: bool,
+}
+
 /// The projection of a point in the camera's frame, less what was observed, and its Jacobian.
 /// Refused with row 9 where a coordinate is not finite, where the depth is not above 64ε of the
 /// largest absolute coordinate, and where an entry of the residual or of the Jacobian is not
 /// finite.
-#[tactic(auto, unfolding(crate::specs::Projection::pixel_projection))]
+#[tactic(auto, using(crate::proofs::Laws::let_through, crate::proofs::Laws::refused))]
+#[inline(always)]
 pub fn pixel_projection(
-    camera: PinholeCamera,
+    camera: &PinholeCamera,
     observation: [f64; 2],
     point: [f64; 3],
 ) -> Result<Projected, Refusal>
-    ensures result { result ≡ Projection.pixel_projection camera observation point }
+    ensures result { result ≡ Projection.pixel_projection camera.now observation point }
     ensures answer { answer no_projection result
-        ≡ answer no_projection (Projection.pixel_projection camera observation point) }
+        ≡ answer no_projection (Projection.pixel_projection camera.now observation point) }
 {
-    if in_front(point) {
-        let projected = linearized(camera, observation, point);
-        if all_finite(projected) {
-            return Ok(projected);
-        }
+    let TestedProjection {
+        projected,
+        projectable,
+    } = tested_projection(camera, observation, point);
+    if projectable {
+        Ok(projected)
+    } else {
+        Err(Refusal::LoneProjection)
     }
-    Err(Refusal::LoneProjection)
+}
+
+/// The same with the verdict as a flag: a loop takes it by value, where a `Result` is copied.
+#[tactic(auto, using(crate::proofs::Laws::projectable_is))]
+#[inline(always)]
+pub fn tested_projection(
+    camera: &PinholeCamera,
+    observation: [f64; 2],
+    point: [f64; 3],
+) -> TestedProjection
+    ensures { result ≡ Projection.tested_projection camera.now observation point }
+{
+    let projected = linearized(camera, observation, point);
+    TestedProjection {
+        projected,
+        projectable: in_front(point) & all_finite(projected),
+    }
 }
 
 // Whether the coordinates are finite and the depth is above 64ε of the largest absolute value of
@@ -76,11 +107,11 @@ fn in_front(point: [f64; 3]) -> bool
     finite & !(point[2] <= numerics::EPSILON64 * scale)
 }
 
-/// The residual and the Jacobian by the formulas alone, for a caller that has made the tests of
-/// `pixel_projection` already: nothing is refused, and entries may be infinite or a NaN.
+// The residual and the Jacobian by the formulas alone
 #[tactic(auto, unfolding(crate::specs::Projection::linearized))]
-pub fn linearized(camera: PinholeCamera, observation: [f64; 2], point: [f64; 3]) -> Projected
-    ensures { result ≡ Projection.linearized camera observation point }
+#[inline(always)]
+fn linearized(camera: &PinholeCamera, observation: [f64; 2], point: [f64; 3]) -> Projected
+    ensures { result ≡ Projection.linearized camera.now observation point }
 {
     let inverse_depth = numerics::recip(point[2]);
     let inverse_depth_squared = inverse_depth * inverse_depth;
