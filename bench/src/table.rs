@@ -1,6 +1,6 @@
 //! The table of all calls, sizes and dampings, as markdown.
 
-use crate::calls::CALLS;
+use crate::calls::{CALLS, Call};
 use crate::clock::Budget;
 use crate::problem::{Problem, case};
 
@@ -31,6 +31,32 @@ pub fn print(budget: Budget) {
             println!();
         }
     }
+}
+
+/// One call at one size and damping, with a digit more than the table has.
+pub fn only(name: &str, points: &str, damping: &str, budget: Budget) -> Result<(), String> {
+    let Some(call) = CALLS.iter().find(|call| plain(call) == name) else {
+        let names = CALLS.each_ref().map(plain).join("`, `");
+        return Err(format!("no call `{name}`: there are `{names}`"));
+    };
+    let n = points.parse().unwrap_or(0);
+    if !(5..=65_535).contains(&n) {
+        return Err("POINTS is a whole number from 5 to 65535".to_owned());
+    }
+    let d = damping.parse().unwrap_or(f64::NAN);
+    if !(0.0..=f64::MAX).contains(&d) {
+        return Err("DAMPING is a finite number from 0 on".to_owned());
+    }
+    let case = case(n, d);
+    let pair = (call.time)(&Problem::new(&case), budget);
+    let (port, rust, ratio) = (pair.port, pair.rust, pair.ratio());
+    println!("{name} n {points} damping {damping}: {port:.1} / {rust:.1} = {ratio:.3}");
+    Ok(())
+}
+
+/// A call's name as one types it.
+fn plain(call: &Call) -> &'static str {
+    call.name.trim_matches('`')
 }
 
 /// Three figures or so.
