@@ -89,6 +89,7 @@ impl PointBlockFactor {
     // 1 ÷ (norm of the matrix × norm of the inverse), and 0 where that product is not
     // positive and finite.
     #[tactic(auto, unfolding(crate::specs::Condition::reciprocal_condition_number))]
+    #[inline(always)]
     pub fn reciprocal_condition_number(self, matrix: [f64; 9]) -> f64
         ensures { result ≡ Condition.reciprocal_condition_number self.inverse matrix }
     {

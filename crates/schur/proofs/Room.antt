@@ -3,8 +3,8 @@ use Rattle.std.proofs.Common.{◌≡◌, ℕ, suc, ◌≤◌, Bool, true, false,
 use lib.Ieee.{Float}
 use Rattle.linearization.specs.declared.linearize.LocalLinearization.{LocalLinearization}
 use Rattle.schur.specs.declared.reduced_system.ReducedSystem.{ReducedSystem}
-use Rattle.schur.specs.BlockElimination.{eliminate}
-use Rattle.schur.specs.System.{raised, taken_with, taken}
+use Rattle.schur.specs.BlockElimination.{raised, eliminate}
+use Rattle.schur.specs.System.{taken_with, taken}
 
 raised_at_most : (b : Bool) (weak blocks : ℕ) → weak ≤ blocks → raised b weak ≤ suc blocks
 raised_at_most true weak blocks h = omega arith

@@ -1,6 +1,6 @@
 -- What a block makes of a system's equations once its point is eliminated, and what it shows of
 -- itself: `add` of schur.rs. Document 01, "The system".
-use Rattle.std.specs.Prelude.{Bool, true, false, ◌&&◌, cond, List, Float, Ok, Err}
+use Rattle.std.specs.Prelude.{ℕ, suc, Bool, true, false, ◌&&◌, cond, List, Float, Ok, Err}
 use Rattle.numerics.specs.Extrema.{min}
 use Rattle.numerics.specs.Binary64.{zero}
 use Rattle.point_block.specs.Damping.{is_zero}
@@ -9,7 +9,18 @@ use Rattle.point_block.specs.Lone.{factor}
 use Rattle.linearization.specs.declared.linearize.LocalLinearization.{LocalLinearization}
 use Rattle.schur.specs.Elimination.{reduced_hessian, reduced_gradient, point_reduction}
 use Rattle.schur.specs.declared.reduced_system.ReducedSystem.{ReducedSystem}
-use Rattle.schur.specs.declared.elimination.block_elimination.Change.{Change}
+
+abbrev pub raised : Bool → ℕ → ℕ
+raised b n = cond b (suc n) n
+
+-- the equations after a block, and what the block shows of itself
+pub record Change : Type 0 where
+  pub hessian : List Float
+  pub gradient : List Float
+  pub point_model_reduction : Float
+  pub minimum_point_rcond : Float
+  pub factored : Bool
+  pub weak : Bool
 
 -- a block that does not factor leaves the equations alone; at damping zero only it is weak, with
 -- an rcond of 0
@@ -36,3 +47,20 @@ eliminated s b damping inverse = record {
 
 unfoldable pub eliminate : ReducedSystem → LocalLinearization → Float → Change
 eliminate s b damping = elim (factor b.point_hessian damping) [ Ok f ↦ eliminated s b damping f.inverse | Err r ↦ not_eliminated s (is_zero damping) ]
+
+-- the system with its equations changed, and the block counted where it is weak
+abbrev pub changed : ReducedSystem → Change → ReducedSystem
+changed s e = record {
+  hessian = e.hessian;
+  gradient = e.gradient;
+  cost = s.cost;
+  squared_residual = s.squared_residual;
+  full_pose_gradient = s.full_pose_gradient;
+  pose_diagonal = s.pose_diagonal;
+  point_model_reduction = e.point_model_reduction;
+  scaled_point_gradient_inf_norm = s.scaled_point_gradient_inf_norm;
+  weak_point_count = raised e.weak s.weak_point_count;
+  minimum_point_rcond = e.minimum_point_rcond;
+  valid = s.valid;
+  block_count = s.block_count;
+}

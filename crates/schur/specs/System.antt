@@ -10,8 +10,7 @@ use Rattle.linearization.specs.declared.linearize.LocalLinearization.{LocalLinea
 use Rattle.schur.specs.GradientNorm.{point_gradient_norm}
 use Rattle.schur.specs.PoseModel.{sum5, diagonal5}
 use Rattle.schur.specs.declared.reduced_system.ReducedSystem.{ReducedSystem}
-use Rattle.schur.specs.declared.elimination.block_elimination.Change.{Change}
-use Rattle.schur.specs.BlockElimination.{eliminate}
+use Rattle.schur.specs.BlockElimination.{Change, raised, eliminate}
 
 -- the most blocks that a system takes in
 abbrev pub max_blocks : ℕ
@@ -22,9 +21,6 @@ abbrev pub Free : ReducedSystem → Type 0
 Free s = (s.block_count < max_blocks) × (s.weak_point_count ≤ s.block_count)
 
 -- ---- taking a block in
-
-abbrev pub raised : Bool → ℕ → ℕ
-raised b n = cond b (suc n) n
 
 -- The system with the block's costs, pose terms and gradient norm taken in, as every block is,
 -- and with what the elimination of its point changes. A block that does not factor

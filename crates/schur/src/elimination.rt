@@ -9,13 +9,16 @@ mod block_elimination;
 ghost use Rattle.std.specs.Prelude.{◌≡◌, ◌<◌};
 ghost use Rattle.schur.specs.Elimination as Elimination;
 
-pub use block_elimination::Change;
 pub(crate) use block_elimination::eliminate;
 use linearization::LocalLinearization;
 use point_block::PointBlockFactor;
 use std::array;
 
-// The Hessian of the pose, with the block's less what the point takes up of it
+// The Hessian of the pose, with the block's less what the point takes up of it: the cross Hessian
+// times the inverse times the cross Hessian's transpose. A row at a time: entry by entry it is a
+// call that is not inlined.
+#[tactic(auto, using(numerics::proofs::Fill::array_none, numerics::proofs::Fill::row_of_five))]
+#[inline(always)]
 pub(crate) fn reduced_hessian(
     h: [f64; 25],
     factor: PointBlockFactor,
@@ -25,34 +28,26 @@ pub(crate) fn reduced_hessian(
 {
     let p = local.pose_hessian;
     let c = local.cross_hessian;
-    let term = schur_term(factor, c);
-    array::from_fn(|k| h[k] + (p[k] - term[k]))
-}
-
-// The cross Hessian times the inverse times the cross Hessian's transpose
-#[tactic(auto, using(numerics::proofs::Fill::array_none, numerics::proofs::Fill::row_of_five))]
-fn schur_term(factor: PointBlockFactor, c: [f64; 15]) -> [f64; 25]
-    ensures { result ≡ Elimination.schur_term factor.inverse c }
-{
     let x0 = factor.solve(cross_row(c, 0));
     let x1 = factor.solve(cross_row(c, 1));
     let x2 = factor.solve(cross_row(c, 2));
     let x3 = factor.solve(cross_row(c, 3));
     let x4 = factor.solve(cross_row(c, 4));
-    // a row at a time: entry by entry is slower
     let mut out = [0.0; 25];
     for i in 0..5 {
         let row = cross_row(c, i);
-        out[5 * i] = dot3(row, x0);
-        out[5 * i + 1] = dot3(row, x1);
-        out[5 * i + 2] = dot3(row, x2);
-        out[5 * i + 3] = dot3(row, x3);
-        out[5 * i + 4] = dot3(row, x4);
+        let k = 5 * i;
+        out[k] = h[k] + (p[k] - dot3(row, x0));
+        out[k + 1] = h[k + 1] + (p[k + 1] - dot3(row, x1));
+        out[k + 2] = h[k + 2] + (p[k + 2] - dot3(row, x2));
+        out[k + 3] = h[k + 3] + (p[k + 3] - dot3(row, x3));
+        out[k + 4] = h[k + 4] + (p[k + 4] - dot3(row, x4));
     }
     out
 }
 
 #[tactic(auto, unfolding(crate::specs::Elimination::reduced_gradient))]
+#[inline(always)]
 pub(crate) fn reduced_gradient(
     g: [f64; 5],
     factor: PointBlockFactor,
@@ -67,6 +62,7 @@ pub(crate) fn reduced_gradient(
 }
 
 #[tactic(auto, unfolding(crate::specs::Elimination::point_reduction))]
+#[inline(always)]
 pub(crate) fn point_reduction(
     reduction: f64,
     factor: PointBlockFactor,
@@ -79,6 +75,7 @@ pub(crate) fn point_reduction(
 }
 
 #[tactic(auto, unfolding(crate::specs::Elimination::inverse_gradient))]
+#[inline(always)]
 fn inverse_gradient(factor: PointBlockFactor, local: LocalLinearization) -> [f64; 3]
     ensures { result ≡ Elimination.inverse_gradient factor.inverse local }
 {
@@ -88,6 +85,7 @@ fn inverse_gradient(factor: PointBlockFactor, local: LocalLinearization) -> [f64
 
 // Row i of five rows of three
 #[tactic(auto, unfolding(crate::specs::Elimination::cross_row))]
+#[inline(always)]
 fn cross_row(cross: [f64; 15], i: usize) -> [f64; 3]
     requires { i < 5 }
     ensures { result ≡ Elimination.cross_row cross i }
@@ -97,6 +95,7 @@ fn cross_row(cross: [f64; 15], i: usize) -> [f64; 3]
 
 // Not `vectors::dot`, which begins at −0
 #[tactic(auto, unfolding(crate::specs::Elimination::dot3))]
+#[inline(always)]
 fn dot3(x: [f64; 3], y: [f64; 3]) -> f64
     ensures { result ≡ Elimination.dot3 x y }
 {

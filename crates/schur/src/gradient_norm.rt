@@ -13,12 +13,14 @@ use numerics::extrema;
 use std::array;
 
 #[tactic(auto, unfolding(crate::specs::GradientNorm::point_gradient_norm))]
+#[inline(always)]
 pub(crate) fn point_gradient_norm(gradient: [f64; 3], hessian: [f64; 9]) -> f64
     ensures { result ≡ GradientNorm.point_gradient_norm gradient hessian }
 {
     norm(gradient, [hessian[0], hessian[4], hessian[8]])
 }
 
+#[inline(always)]
 pub(crate) fn norm<const N: usize>(g: [f64; N], d: [f64; N]) -> f64
     ensures { result ≡ GradientNorm.scaled_gradient_inf_norm N g.entry d.entry }
 {
@@ -43,6 +45,7 @@ fn unscaled(all_zero: bool) -> f64
     if all_zero { 0.0 } else { f64::INFINITY }
 }
 
+#[inline(always)]
 fn scaled(value: f64, curvature: f64, floor: f64) -> f64
     ensures { GradientNorm.Scaled value curvature floor result }
 {

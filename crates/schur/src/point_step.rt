@@ -40,6 +40,7 @@ pub fn point_step_with_damping_norm(
 
 /// The same at a valid damping, from what a step needs of the block. Tests row 10.
 #[tactic(auto, unfolding(crate::specs::PointStep::damped_step))]
+#[inline(always)]
 pub fn damped_step(
     terms: PointTerms,
     damping: ValidDamping,
@@ -54,6 +55,7 @@ pub fn damped_step(
 }
 
 #[tactic(auto, unfolding(crate::specs::PointStep::stepped))]
+#[inline(always)]
 fn stepped(factor: PointBlockFactor, terms: PointTerms, pose_step: [f64; 5]) -> PointStep
     ensures { result ≡ Steps.stepped factor.inverse terms pose_step }
 {

@@ -9,7 +9,6 @@ ghost use Rattle.std.specs.Result.{result_err};
 ghost use Rattle.refusal.specs.Answer.{answer};
 ghost use Rattle.schur.specs.System as System;
 
-use crate::elimination::Change;
 use crate::reduced_system::ReducedSystem;
 use crate::{elimination, gradient_norm, pose_model};
 use linearization::LocalLinearization;
@@ -84,61 +83,39 @@ impl OpenSystem {
         Ok(Self { system })
     }
 
-    /// The system with the block taken in
-    #[tactic(auto, unfolding(crate::specs::System::taken))]
+    /// The system with the block taken in. Inlined into the loop that makes the blocks, with all
+    /// that it calls: so the loop copies neither the block nor the system, and changes the system
+    /// in place.
+    #[inline(always)]
     pub fn with_block(self, local: LocalLinearization, damping: ValidDamping) -> ReducedSystem
         ensures { result ≡ System.taken self local damping }
     {
-        let system = self.system;
-        let change = elimination::eliminate(system, local, damping);
-        let weak = raised(change.weak, system.weak_point_count);
-        taken_with(system, local, change, weak)
+        let mut system = self.system;
+        take_in(&mut system, local, damping);
+        system
     }
 }
 
-// Takes in what every block brings, beside what the elimination of its point changes.
-#[tactic(auto, unfolding(crate::specs::System::taken_with))]
-fn taken_with(
-    system: ReducedSystem,
-    local: LocalLinearization,
-    change: Change,
-    weak: u16,
-) -> ReducedSystem
-    requires { system.block_count < System.max_blocks }
-    ensures { result ≡ System.taken_with system local change weak }
+// The equations change once the block's point is eliminated, and the sums take in what every block
+// brings.
+#[tactic(auto, unfolding(crate::specs::System::taken, crate::specs::System::taken_with))]
+#[inline(always)]
+fn take_in(system: &mut ReducedSystem, local: LocalLinearization, damping: ValidDamping)
+    requires { System.Free system.old }
+    ensures { system.new ≡ System.taken system.old local damping }
 {
-    let block_count = system.block_count + 1;
-    let valid = system.valid & change.factored;
-    let hessian = change.hessian;
-    let gradient = change.gradient;
-    let full_gradient = system.full_pose_gradient;
-    let diagonal = system.pose_diagonal;
-    let pose_gradient = local.pose_gradient;
-    let pose_hessian = local.pose_hessian;
-    let point_gradient = local.point_gradient;
-    let point_hessian = local.point_hessian;
-    ReducedSystem {
-        hessian,
-        gradient,
-        cost: system.cost + local.cost,
-        squared_residual: system.squared_residual + local.squared_residual,
-        full_pose_gradient: pose_model::sum5(full_gradient, pose_gradient),
-        pose_diagonal: pose_model::sum5(diagonal, pose_model::diagonal5(pose_hessian)),
-        point_model_reduction: change.point_model_reduction,
-        scaled_point_gradient_inf_norm: extrema::max(
-            system.scaled_point_gradient_inf_norm,
-            gradient_norm::point_gradient_norm(point_gradient, point_hessian),
-        ),
-        weak_point_count: weak,
-        minimum_point_rcond: change.minimum_point_rcond,
-        valid,
-        block_count,
-    }
-}
-
-fn raised(by_one: bool, count: u16) -> u16
-    requires { count < System.max_blocks }
-    ensures { result ≡ System.raised by_one count }
-{
-    count + u16::from(by_one)
+    let factored = elimination::eliminate(system, local, damping);
+    system.cost += local.cost;
+    system.squared_residual += local.squared_residual;
+    system.full_pose_gradient = pose_model::sum5(system.full_pose_gradient, local.pose_gradient);
+    system.pose_diagonal = pose_model::sum5(
+        system.pose_diagonal,
+        pose_model::diagonal5(local.pose_hessian),
+    );
+    system.scaled_point_gradient_inf_norm = extrema::max(
+        system.scaled_point_gradient_inf_norm,
+        gradient_norm::point_gradient_norm(local.point_gradient, local.point_hessian),
+    );
+    system.valid &= factored;
+    system.block_count += 1;
 }
