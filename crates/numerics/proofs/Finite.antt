@@ -6,7 +6,7 @@ use mathlib.Core.List.{List, [], ◌∷◌}
 use Prim.Native.Nat.{◌*◌}
 use native.Mathlib.Nat.{zero-mul, mul-pos}
 use lib.Dec.{T, eqb, eqb→eq}
-use lib.Ieee.{Float, nan, inf, fin, Format, unlike, up, down, add, mul, eq, level, of_bits}
+use lib.Ieee.{Float, nan, inf, fin, Format, unlike, up, down, add, mul, eq, neg, sub, level, of_bits}
 use lib.Ieee.Bits.{is_true}
 use lib.Ieee.Fits.{down_pos}
 use Rattle.std.specs.Prelude.{fold}
@@ -32,6 +32,13 @@ finite_add f (inf s) (fin t n d) h = absurd h
 finite_add f (fin s m e) nan h = absurd h
 finite_add f (fin s m e) (inf t) h = absurd h
 finite_add f (fin s m e) (fin t n d) h = (tt, tt)
+
+-- a difference is a sum with the sign of one operand changed
+pub finite_sub : (f : Format) (x y : Float) → T (is_finite (sub f x y)) → T (is_finite x) × T (is_finite y)
+unfolding sub neg is_finite
+finite_sub f x nan h = finite_add f x nan h
+finite_sub f x (inf s) h = finite_add f x (inf (not s)) h
+finite_sub f x (fin s m e) h = finite_add f x (fin (not s) m e) h
 
 pub finite_mul : (f : Format) (x y : Float) → T (is_finite (mul f x y)) → T (is_finite x) × T (is_finite y)
 unfolding is_finite mul

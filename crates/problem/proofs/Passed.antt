@@ -1,21 +1,27 @@
 -- What rows 1 to 9 leave. Assumes nothing.
-use mathlib.Core.Path.{◌≡◌, refl, sym, subst}
+use mathlib.Core.Path.{◌≡◌, refl, sym, subst, ◌∙◌}
 use mathlib.Core.Bool.{true, ◌&&◌}
 use Prim.Native.Nat.{ℕ, ◌*◌, ◌≤◌, ◌<◌}
-use borrow.Author.Tests.{eqb-true, leb-true}
-use lib.Dec.{T, eqb, leb}
-use Rattle.std.specs.Prelude.{Ok}
+use borrow.Author.Tests.{eqb-true, leb-true, eq-eqb}
+use lib.Dec.{T, eqb, leb, le→leb}
+use Rattle.std.specs.Prelude.{Ok, Err, is_ok}
+use Rattle.std.specs.Result.{result_and}
+use lib.Ieee.Bits.{is_true}
 use Rattle.std.proofs.lemmas.Bool.{and_parts}
-use Rattle.numerics.specs.Vectors.{◌!◌}
-use Rattle.refusal.specs.First.{unless, first}
+use Rattle.numerics.specs.Vectors.{◌!◌, all_finite}
+use Rattle.refusal.specs.First.{Checked, unless, first}
+use Rattle.refusal.specs.declared.Refusal.{Refusal}
+use Rattle.projection.specs.Projection.{pixel_projection}
+use Rattle.projection.proofs.Laws.{point_finite, observation_finite}
 use Rattle.refusal.specs.declared.View.TheVariants.{First, Second}
 use Rattle.refusal.specs.declared.Refusal.TheVariants.{Lengths, TooManyPoints, Damping, InverseDeviation, Baseline, TooFewPoints, Projection}
 use Rattle.point_block.specs.Damping.{good_damping}
-use Rattle.linearization.specs.Views.{good_deviation, check_views}
+use Rattle.linearization.specs.Views.{good_deviation, moved, check_views}
+use Rattle.linearization.proofs.Tested.{accepted_is}
 use Rattle.linearization.specs.Linearize.{block_of, linearize_point}
-use Rattle.problem.specs.Problem.{Problem, count, correspondence_at, project}
-use Rattle.problem.specs.Checks.{lengths_fit, min_points, max_points, Fits, good_baseline, check_deviation, check_point, check_observation, check_view, check_projection, check_seen, check_values, check}
-use Rattle.refusal.proofs.Scans.{after_ok, held, all_ok}
+use Rattle.problem.specs.Problem.{Problem, count, triple, pair, correspondence_at, project}
+use Rattle.problem.specs.Checks.{lengths_fit, min_points, max_points, Fits, good_baseline, check_deviation, check_point, check_observation, check_view, check_projection, check_seen, check_values, check_readable, check}
+use Rattle.refusal.proofs.Scans.{after_ok, held, all_ok, passes}
 
 all_fit : (p v w n : ℕ) → (eqb p (3 * n) && eqb v (2 * n) && eqb w (2 * n)) ≡ true → leb n max_points ≡ true → (p ≡ 3 * n) × (v ≡ 2 * n) × (w ≡ 2 * n) × (n ≤ max_points)
 all_fit p v w n t h =
@@ -59,3 +65,79 @@ block_made p e i h =
     let first = held _ (Projection First i) both.0 in
     let second = held _ (Projection Second i) both.1 in
     rw (deviation, first, second) refl
+
+-- ---- row by row
+
+-- what rows 1 to 3 refuse
+pub refused_first : (p : Problem) (e : Refusal) → check_readable p ≡ Err e → check p ≡ Err e
+unfolding check_readable check check_values
+refused_first p e = by (unless (lengths_fit p) Lengths) (unless (leb (count p) max_points) TooManyPoints) (unless (good_damping p.damping) Damping) _
+  where
+    by : (a b c rest : Checked) → result_and a (result_and b c) ≡ Err e → result_and a (result_and b (result_and c rest)) ≡ Err e
+    by (Err x) b c rest k = k
+    by (Ok u) (Err x) c rest k = k
+    by (Ok u) (Ok v) (Err x) rest k = k
+    by (Ok u) (Ok v) (Ok w) rest k = absurd (cc)
+
+-- where the lengths fit, rows 3 to 9 decide
+pub fitting_check : (p : Problem) → Fits p → check p ≡ check_values p
+unfolding check
+fitting_check p f = rw (eq-eqb _ _ f.0, eq-eqb _ _ f.1, eq-eqb _ _ f.2, is_true _ (le→leb _ _ f.3)) refl
+
+-- A problem whose points need not be looked at again: rows 1 to 3, 5 and 7 let it through, and
+-- rows 4 and 9 each point by itself.
+module _ (p : Problem) (fits : Fits p) (damping : T (good_damping p.damping)) (rest : (good_baseline p.rig.pose.baseline && leb min_points (count p)) ≡ true)
+    (blocks : (i : ℕ) → i < count p → is_ok (check_views p.rig (correspondence_at p i)) ≡ true) where
+  -- what the tests of a point's views say
+  record Seen (i : ℕ) : Type 0 where
+    deviation : good_deviation (p.deviations ! i) ≡ true
+    view1 : is_ok (pixel_projection p.rig.camera1 (pair p.view1 i) (triple p.points i)) ≡ true
+    view2 : is_ok (pixel_projection p.rig.camera2 (pair p.view2 i) (moved p.rig (correspondence_at p i))) ≡ true
+
+  seen : (i : ℕ) → i < count p → Seen i
+  seen i h =
+      let e = and_parts _ _ (accepted_is p.rig (correspondence_at p i) ∙ blocks i h) in
+      let d = and_parts _ _ e.0 in
+      record { deviation = d.0; view1 = d.1; view2 = e.1 }
+
+  deviations_pass : (i : ℕ) → i < count p → check_deviation p.deviations i ≡ Ok tt
+  deviations_pass i h = rw ((seen i h).deviation) refl
+
+  points_pass : (i : ℕ) → i < count p → check_point p.points i ≡ Ok tt
+  unfolding all_finite
+  points_pass i h =
+      let x = point_finite _ _ _ (seen i h).view1 in
+      rw (is_true _ x.0, is_true _ x.1, is_true _ x.2) refl
+
+  view1_passes : (i : ℕ) → i < count p → check_observation p First i ≡ Ok tt
+  unfolding all_finite
+  view1_passes i h =
+      let x = observation_finite _ _ _ (seen i h).view1 in
+      rw (is_true _ x.0, is_true _ x.1) refl
+
+  view2_passes : (i : ℕ) → i < count p → check_observation p Second i ≡ Ok tt
+  unfolding all_finite
+  view2_passes i h =
+      let x = observation_finite _ _ _ (seen i h).view2 in
+      rw (is_true _ x.0, is_true _ x.1) refl
+
+  projections_pass : (i : ℕ) → i < count p → check_projection p i ≡ Ok tt
+  unfolding project
+  projections_pass i h = rw ((seen i h).view1, (seen i h).view2) refl
+
+  pub blocks_pass : check p ≡ Ok tt
+  unfolding check_values check_seen
+  blocks_pass =
+      let r = and_parts (good_baseline p.rig.pose.baseline) (leb min_points (count p)) rest in
+      let n = count p in
+      fitting_check p fits
+      ∙ rw (
+        is_true _ damping,
+        passes (check_deviation p.deviations) n deviations_pass,
+        r.0,
+        passes (check_point p.points) n points_pass,
+        r.1,
+        passes (check_observation p First) n view1_passes,
+        passes (check_observation p Second) n view2_passes,
+        passes (check_projection p) n projections_pass,
+      ) refl

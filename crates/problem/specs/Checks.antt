@@ -73,6 +73,10 @@ check_values p =
     ∷ check_seen p
     ∷ [])
 
+-- rows 1 to 3, the room apart
+unfoldable pub check_readable : Problem → Checked
+check_readable p = first_of (unless (lengths_fit p) Lengths ∷ unless (leb (count p) max_points) TooManyPoints ∷ unless (good_damping p.damping) Damping ∷ [])
+
 -- rows 1 to 9, the room apart
 unfoldable pub check : Problem → Checked
 check p = first_of (unless (lengths_fit p) Lengths ∷ unless (leb (count p) max_points) TooManyPoints ∷ check_values p ∷ [])

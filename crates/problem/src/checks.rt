@@ -4,9 +4,10 @@
 // Rows 1 to 9 of a two-view problem over lent memory, before any sum: kernel/two_view/optimizer.rs,
 // residual.rs.
 
-ghost use Rattle.std.specs.Prelude.{◌≡◌, ◌<◌, ◌*◌, eqb, Ok};
+ghost use Rattle.std.specs.Prelude.{◌≡◌, ◌<◌, ◌*◌, ◌&&◌, eqb, leb, Ok, T};
 ghost use Rattle.std.specs.Result.{result_and};
 ghost use Rattle.refusal.specs.First as First;
+ghost use Rattle.point_block.specs.Damping.{good_damping};
 ghost use Rattle.problem.specs.Problem as Problems;
 ghost use Rattle.problem.specs.Checks as Checks;
 
@@ -23,30 +24,48 @@ const MINIMUM_POINTS: u32 = 5;
 // Row 2
 const MAXIMUM_POINTS: usize = 65535;
 
-/// A problem that rows 1 to 9 let through, row 1 without the room
+/// A problem that rows 1 to 3 let through, row 1 without the room: its points can be read, and its
+/// damping is valid.
 #[derive(Drop)]
-pub struct CheckedProblem<'a> {
+pub struct ReadableProblem<'a> {
     fitting: FittingProblem<'a>,
     damping: ValidDamping,
 }
 
+impl<'a> Model for ReadableProblem<'a> {
+    ghost use Rattle.std.specs.Prelude.{◌≡◌};
+    ghost use Rattle.problem.specs.Problem.{Problem, of};
+
+    ghost Value = { Problem };
+
+    ghost view = { λ r. of r.fitting.problem.now };
+
+    ghost invariant = { λ r. r.damping ≡ r.fitting.problem.now.damping };
+}
+
+/// A problem that rows 1 to 9 let through, row 1 without the room
+#[derive(Drop)]
+pub struct CheckedProblem<'a> {
+    pub readable: ReadableProblem<'a>,
+}
+
 impl<'a> Model for CheckedProblem<'a> {
     ghost use Rattle.std.specs.Prelude.{◌≡◌, Ok};
-    ghost use Rattle.problem.specs.Problem.{Problem, of};
+    ghost use Rattle.problem.specs.Problem.{Problem};
     ghost use Rattle.problem.specs.Checks.{check};
 
     ghost Value = { Problem };
 
-    ghost view = { λ c. of c.fitting.problem.now };
+    ghost view = { λ c. c.readable };
 
-    ghost invariant = { λ c. (check (of c.fitting.problem.now) ≡ Ok tt) × (c.damping ≡ c.fitting.problem.now.damping) };
+    ghost invariant = { λ c. check c.readable ≡ Ok tt };
 }
 
-impl<'a> CheckedProblem<'a> {
-    /// Tests rows 1 to 9, row 1 without the room.
-    #[tactic(auto, unfolding(crate::specs::Checks::check))]
-    pub fn new(problem: &'a Problem<'a>) -> Result<CheckedProblem<'a>, Refusal>
-        ensures { result ≡ result_and (Checks.check (Problems.of problem.now)) (Ok (Problems.of problem.now)) }
+impl<'a> ReadableProblem<'a> {
+    /// Tests rows 1 to 3, row 1 without the room.
+    #[tactic(auto, unfolding(crate::specs::Checks::check_readable))]
+    pub fn new(problem: &'a Problem<'a>) -> Result<ReadableProblem<'a>, Refusal>
+        ensures { result ≡ result_and (Checks.check_readable (Problems.of problem.now)) (Ok (Problems.of problem.now)) }
     {
         let n = problem.count();
         let fit = belongs(problem.points.len(), 3, n)
@@ -59,14 +78,13 @@ impl<'a> CheckedProblem<'a> {
             return Err(Refusal::TooManyPoints);
         }
         let fitting = FittingProblem { problem };
-        let damping = check_values(fitting)?;
-        Ok(CheckedProblem { fitting, damping })
+        let damping = ValidDamping::new(problem.damping)?;
+        Ok(ReadableProblem { fitting, damping })
     }
 
     /// The problem as one whose lengths fit
     pub fn fitting(&self) -> FittingProblem<'a>
-        ensures problem { Problems.of result.problem.now ≡ self.now }
-        ensures checked { Checks.check self.now ≡ Ok tt }
+        ensures { Problems.of result.problem.now ≡ self.now }
     {
         self.fitting
     }
@@ -76,6 +94,49 @@ impl<'a> CheckedProblem<'a> {
         ensures { result ≡ self.now.damping }
     {
         self.damping
+    }
+
+    /// Whether rows 5 and 7 let it through, which look at no point
+    pub fn has_baseline_and_points(&self) -> bool
+        ensures { result ≡ (Checks.good_baseline self.now.rig.pose.baseline
+            && leb Checks.min_points (Problems.count self.now)) }
+    {
+        good_baseline(self.fitting.problem.rig.pose.baseline)
+            & (self.fitting.count() >= MINIMUM_POINTS)
+    }
+}
+
+impl<'a> CheckedProblem<'a> {
+    /// Tests rows 1 to 9, row 1 without the room.
+    #[tactic(auto, using(crate::proofs::Passed::refused_first))]
+    pub fn new(problem: &'a Problem<'a>) -> Result<CheckedProblem<'a>, Refusal>
+        ensures { result ≡ result_and (Checks.check (Problems.of problem.now)) (Ok (Problems.of problem.now)) }
+    {
+        Self::of(ReadableProblem::new(problem)?)
+    }
+
+    /// Tests rows 4 to 9, in their order.
+    #[tactic(auto, using(crate::proofs::Passed::fitting_check))]
+    pub fn of(readable: ReadableProblem<'a>) -> Result<CheckedProblem<'a>, Refusal>
+        ensures { result ≡ result_and (Checks.check readable.entry) (Ok readable.entry) }
+    {
+        check_values(readable.fitting())?;
+        Ok(CheckedProblem { readable })
+    }
+
+    /// The problem as one whose lengths fit
+    pub fn fitting(&self) -> FittingProblem<'a>
+        ensures problem { Problems.of result.problem.now ≡ self.now }
+        ensures checked { Checks.check self.now ≡ Ok tt }
+    {
+        self.readable.fitting()
+    }
+
+    /// The problem's damping
+    pub fn damping(&self) -> ValidDamping
+        ensures { result ≡ self.now.damping }
+    {
+        self.readable.damping()
     }
 }
 
@@ -88,12 +149,12 @@ fn belongs(length: usize, each: usize, n: usize) -> bool
     length / each == n && length % each == 0
 }
 
-// Rows 3 to 9, with the damping that row 3 lets through
+// Rows 4 to 9, where row 3 lets the damping through
 #[tactic(auto, unfolding(crate::specs::Checks::check_values))]
-fn check_values(fitting: FittingProblem) -> Result<ValidDamping, Refusal>
-    ensures { result ≡ result_and (Checks.check_values (Problems.of fitting.entry.problem.now)) (Ok fitting.entry.problem.now.damping) }
+fn check_values(fitting: FittingProblem) -> Result<(), Refusal>
+    requires { T (good_damping fitting.problem.now.damping) }
+    ensures { result ≡ Checks.check_values (Problems.of fitting.entry.problem.now) }
 {
-    let damping = ValidDamping::new(fitting.problem.damping)?;
     check_deviations(fitting)?;
     if !good_baseline(fitting.problem.rig.pose.baseline) {
         return Err(Refusal::Baseline);
@@ -102,8 +163,7 @@ fn check_values(fitting: FittingProblem) -> Result<ValidDamping, Refusal>
     if fitting.count() < MINIMUM_POINTS {
         return Err(Refusal::TooFewPoints);
     }
-    check_seen(fitting)?;
-    Ok(damping)
+    check_seen(fitting)
 }
 
 // Row 4

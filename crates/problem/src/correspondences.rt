@@ -120,11 +120,11 @@ pub(crate) fn project(
     ensures { result ≡ Problems.project rig.now view observation point }
 {
     match view {
-        View::First => projection::pixel_projection(rig.camera1, observation, point),
+        View::First => projection::pixel_projection(&rig.camera1, observation, point),
         View::Second => {
             let rotated = projection::rotate(rig.pose.rotation, point);
             let moved = projection::camera_point(rotated, rig.pose.translation);
-            projection::pixel_projection(rig.camera2, observation, moved)
+            projection::pixel_projection(&rig.camera2, observation, moved)
         }
     }
 }

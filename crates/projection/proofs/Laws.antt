@@ -1,12 +1,16 @@
 -- What holds of every projection. Assumes nothing.
-use mathlib.Core.Path.{◌≡◌, refl, sym, ap}
+use mathlib.Core.Path.{◌≡◌, refl, sym, ap, ◌∙◌, subst}
 use mathlib.Core.Bool.{Bool, true, false, ◌&&◌, cond}
 use mathlib.Core.List.{List}
 use lib.Dec.{T}
-use lib.Ieee.{Float}
+use lib.Ieee.{Float, binary64}
+use lib.Ieee.Fits.{and_l, and_r}
 use Rattle.std.specs.Prelude.{Result, Ok, Err, is_ok}
 use Rattle.refusal.specs.declared.Refusal.{Refusal}
 use Rattle.refusal.specs.declared.Refusal.TheVariants.{LoneProjection}
+use Rattle.numerics.specs.Parts.{is_finite}
+use Rattle.numerics.specs.Vectors.{◌!◌}
+use Rattle.numerics.proofs.Finite.{finite_sub}
 use Rattle.projection.specs.declared.PinholeCamera.{PinholeCamera}
 use Rattle.projection.specs.declared.Projected.{Projected}
 use Rattle.projection.specs.Projection.{in_front, linearized, all_finite, pixel_projection}
@@ -71,3 +75,27 @@ module _ (camera : PinholeCamera) (observation point : List Float) where
       by true true t = absurd (cc)
       by true false t = refl
       by false g t = refl
+
+-- what a point in front of the camera has: finite coordinates
+pub front_finite : (p : List Float) → T (in_front p) → T (is_finite (p ! 0)) × T (is_finite (p ! 1)) × T (is_finite (p ! 2))
+unfolding in_front
+front_finite p h =
+    let A = is_finite (p ! 0) in
+    let B = is_finite (p ! 1) in
+    let C = is_finite (p ! 2) in
+    let k = and_l (A && B && C) _ h in
+    (and_l A B (and_l (A && B) C k), and_r A B (and_l (A && B) C k), and_r (A && B) C k)
+
+-- what is let through had finite coordinates and a finite observation
+module _ (camera : PinholeCamera) (observation point : List Float) (e : is_ok (pixel_projection camera observation point) ≡ true) where
+  tests : T (in_front point && all_finite (linearized camera observation point))
+  tests = subst T (sym (projectable_is camera observation point ∙ e)) tt
+
+  pub point_finite : T (is_finite (point ! 0)) × T (is_finite (point ! 1)) × T (is_finite (point ! 2))
+  point_finite = front_finite point (and_l _ _ tests)
+
+  pub observation_finite : T (is_finite (observation ! 0)) × T (is_finite (observation ! 1))
+  unfolding all_finite linearized
+  observation_finite =
+      let residual = and_l _ _ (and_l _ _ (and_l _ _ (and_l _ _ (and_l _ _ (and_l _ _ (and_r (in_front point) _ tests)))))) in
+      ((finite_sub binary64 _ _ (and_l _ _ residual)).1, (finite_sub binary64 _ _ (and_r _ _ residual)).1)

@@ -18,7 +18,7 @@ use Rattle.numerics.proofs.Finite.{finite_add, finite_mul}
 use Rattle.projection.specs.declared.PinholeCamera.{PinholeCamera}
 use Rattle.projection.specs.Projection.{in_front, pixel_projection}
 use Rattle.projection.specs.Pose.{rotate, camera_point, NonFinitePoseIsNotProjectable}
-use Rattle.projection.proofs.Laws.{behind}
+use Rattle.projection.proofs.Laws.{behind, front_finite}
 
 -- a row of the rotation with its part of the translation
 record FiniteRow (a b c t : Float) : Type 0 where
@@ -38,16 +38,6 @@ finite_row a b c t x y z h =
       third = (finite_mul binary64 c z u.1).0;
       moved = s.1;
     }
-
--- what a point in front of the camera has: finite coordinates
-front_finite : (p : List Float) → T (in_front p) → T (is_finite (p ! 0)) × T (is_finite (p ! 1)) × T (is_finite (p ! 2))
-unfolding in_front
-front_finite p h =
-    let A = is_finite (p ! 0) in
-    let B = is_finite (p ! 1) in
-    let C = is_finite (p ! 2) in
-    let k = and_l (A && B && C) _ h in
-    (and_l A B (and_l (A && B) C k), and_r A B (and_l (A && B) C k), and_r (A && B) C k)
 
 module _ (rotation translation point : List Float) where
   abbrev moved : List Float

@@ -57,3 +57,13 @@ ok_from check (suc left) start (suc j) k e =
 
 pub all_ok : (check : ℕ → Checked) (n i : ℕ) → i < n → first check 0 n ≡ Ok tt → check i ≡ Ok tt
 all_ok check n i h e = ap check (sym (zero-add i)) ∙ ok_from check n 0 i h e
+
+-- and back: a check that every index passes
+passes_from : (check : ℕ → Checked) (left start : ℕ) → ((i : ℕ) → i < start + left → check i ≡ Ok tt) → first check start left ≡ Ok tt
+unfolding first
+passes_from check zero start h = refl
+passes_from check (suc left) start h =
+    rw (h start (omega arith)) (passes_from check left (suc start) (λ i k. h i (omega arith)))
+
+pub passes : (check : ℕ → Checked) (n : ℕ) → ((i : ℕ) → i < n → check i ≡ Ok tt) → first check 0 n ≡ Ok tt
+passes check n h = passes_from check n 0 (λ i k. h i (omega arith))
