@@ -11,10 +11,11 @@ use lib.Ieee.Bits.{is_true, is_false}
 use lib.Ieee.Fits.{and_l, and_r, down_pos}
 use Rattle.std.specs.Bool.{beq}
 use Rattle.std.proofs.lemmas.Bool.{false_from_ne_true}
-use Rattle.std.proofs.lemmas.Float.{le_left, le_right, le_of_lt, le_of_eq, lt_irrefl, lt_trans, eq_flip, eq-not_lt}
+use Rattle.std.proofs.lemmas.Float.{le_left, le_right, le_of_lt, le_of_eq, eq_flip, eq-not_lt}
 use Rattle.numerics.specs.Parts.{negative}
 use Rattle.numerics.specs.Extrema.{max, min, Picked, IsMaximum, IsMinimum}
 use Rattle.numerics.proofs.Values.{same_value}
+use Rattle.numerics.proofs.Order.{lt_one_way}
 use Rattle.numerics.proofs.Specials.{nan_of_is_nan}
 use Rattle.numerics.proofs.Picks.{pick}
 
@@ -71,7 +72,7 @@ below : Strict lt
 below = record {
   first_number = λ x y h. le_left x y (le_of_lt x y h);
   second_number = λ x y h. le_right x y (le_of_lt x y h);
-  one_way = λ x y h. false_from_ne_true (lt y x) (λ k. lt_irrefl x (lt_trans x y x h (rw k tt)));
+  one_way = lt_one_way;
   apart = λ x y h. false_from_ne_true (lt x y) (λ k. eq-not_lt x y h (rw k tt));
 }
 

@@ -38,7 +38,7 @@ min_le_left x y p = by (is_nan y) refl
     by false e = min_le_number x y p (rw e tt)
 
 -- by one comparison, the larger of a value that is clear of the sign and of any other, a NaN too
-max_select : (least x : Float) → T (nonneg least) → max least x ≡ cond (lt least x) x least
+pub max_select : (least x : Float) → T (nonneg least) → max least x ≡ cond (lt least x) x least
 unfolding max le
 max_select least x h = by (is_nan x) refl
   where

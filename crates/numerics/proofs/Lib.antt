@@ -6,6 +6,7 @@ pub mod Specials
 mod Differences
 pub mod Order
 pub mod Monotone
+pub mod Absolute
 pub mod Finite
 pub mod Fill
 pub mod FromFn
@@ -13,3 +14,4 @@ mod Products
 mod Picks
 mod ExtremaLaws
 pub mod Laws
+pub mod Scaled

@@ -91,7 +91,7 @@ nonneg_mul_weight f x w h p l = nonneg_mul_above f x w (of_bits f 0) h (nonneg_z
 
 -- ---- c * x * x for a c that is finite and above zero: where x is 0 so is c * x, and where x is infinite so is c * x
 
-times_zero : (f : Format) (m : ℕ) (e d : ℤ) → mul f (fin false m e) (fin false 0 d) ≡ fin false 0 (pos 0)
+pub times_zero : (f : Format) (m : ℕ) (e d : ℤ) → mul f (fin false m e) (fin false 0 d) ≡ fin false 0 (pos 0)
 unfolding mul
 times_zero f m e d = rw (zero-mul (up d), mul-zero (m * up e)) (round_zero f false (down e * down d) (mul-pos (down_pos e) (down_pos d)))
 

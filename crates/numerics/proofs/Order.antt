@@ -11,7 +11,7 @@ use lib.Ieee.Bits.{is_true, is_false}
 use lib.Ieee.Fits.{round_is}
 pub use Rattle.std.proofs.lemmas.Float.{le_refl}
 use Rattle.std.proofs.lemmas.Bool.{false_from_ne_true}
-use Rattle.std.proofs.lemmas.Float.{lt_irrefl, lt_of_lt_of_le, le_of_not-lt}
+use Rattle.std.proofs.lemmas.Float.{lt_irrefl, lt_trans, lt_of_lt_of_le, le_of_not-lt}
 use Rattle.numerics.specs.Binary64.{◌⊗◌, epsilon64, recip}
 use Rattle.numerics.specs.Parts.{is_finite, negative, nonneg}
 
@@ -24,6 +24,10 @@ not_lt x y p q = by (lt x y) refl
     by : (t : Bool) → lt x y ≡ t → not t ≡ le y x
     by true h = sym (false_from_ne_true (le y x) (λ k. lt_irrefl x (lt_of_lt_of_le x y x (rw h tt) (rw k tt))))
     by false h = sym (is_true (le y x) (le_of_not-lt x y p q (rw h tt)))
+
+-- no two values are each below the other
+pub lt_one_way : (x y : Float) → T (lt x y) → lt y x ≡ false
+lt_one_way x y h = false_from_ne_true (lt y x) (λ k. lt_irrefl x (lt_trans x y x h (rw k tt)))
 
 -- ---- values clear of the sign
 

@@ -14,13 +14,12 @@
 
 mod camera_frame;
 
-ghost use Rattle.std.specs.Prelude.{◌≡◌};
+ghost use Rattle.std.specs.Prelude.{◌≡◌, [], ◌∷◌};
 ghost use Rattle.refusal.specs.Answer.{answer};
 ghost use Rattle.projection.specs.Projection as Projection;
 ghost use Rattle.projection.specs.Projection.{no_projection};
 
 pub use camera_frame::{camera_point, non_finite_pose_is_not_projectable, rotate};
-use numerics::extrema;
 use refusal::Refusal;
 
 /// A camera without distortion, in pixels: the focal lengths, the principal point and the skew.
@@ -92,19 +91,24 @@ pub fn tested_projection(
 }
 
 // Whether the coordinates are finite and the depth is above 64ε of the largest absolute value of
-// them.
+// them. Always inlined, so that the coordinates stay in registers.
+#[inline(always)]
 #[tactic(auto, unfolding(crate::specs::Projection::in_front))]
 fn in_front(point: [f64; 3]) -> bool
     ensures { result ≡ Projection.in_front point }
 {
-    let finite = numerics::is_finite(point[0])
-        & numerics::is_finite(point[1])
-        & numerics::is_finite(point[2]);
-    let x = numerics::abs(point[0]);
-    let y = numerics::abs(point[1]);
-    let z = numerics::abs(point[2]);
-    let scale = extrema::largest([x, y, z]);
-    finite & !(point[2] <= numerics::EPSILON64 * scale)
+    is_in_front(point[0], point[1], point[2])
+}
+
+// By comparisons alone, with no absolute value: 64ε of an absolute value is below z where 64ε of
+// the value is between −z and z. That of an infinity or of a NaN never is.
+#[inline(always)]
+fn is_in_front(x: f64, y: f64, z: f64) -> bool
+    ensures { result ≡ Projection.in_front (x ∷ y ∷ z ∷ []) }
+{
+    let right = numerics::EPSILON64 * x;
+    let down = numerics::EPSILON64 * y;
+    (numerics::EPSILON64 * z < z) & ((right < z) & (-z < right)) & ((down < z) & (-z < down))
 }
 
 // The residual and the Jacobian by the formulas alone
