@@ -20,7 +20,7 @@ use Rattle.linearization.specs.Views.{good_deviation, moved, check_views}
 use Rattle.linearization.proofs.Tested.{accepted_is}
 use Rattle.linearization.specs.Linearize.{block_of, linearize_point}
 use Rattle.problem.specs.Problem.{Problem, count, triple, pair, correspondence_at, project}
-use Rattle.problem.specs.Checks.{lengths_fit, min_points, max_points, Fits, good_baseline, check_deviation, check_point, check_observation, check_view, check_projection, check_seen, check_values, check_readable, check}
+use Rattle.problem.specs.Checks.{lengths_fit, min_points, max_points, Fits, Accepted, good_baseline, check_deviation, check_point, check_observation, check_view, check_projection, check_seen, check_values, check_readable, check}
 use Rattle.refusal.proofs.Scans.{after_ok, held, all_ok, passes}
 
 all_fit : (p v w n : ℕ) → (eqb p (3 * n) && eqb v (2 * n) && eqb w (2 * n)) ≡ true → leb n max_points ≡ true → (p ≡ 3 * n) × (v ≡ 2 * n) × (w ≡ 2 * n) × (n ≤ max_points)
@@ -87,7 +87,7 @@ fitting_check p f = rw (eq-eqb _ _ f.0, eq-eqb _ _ f.1, eq-eqb _ _ f.2, is_true 
 -- A problem whose points need not be looked at again: rows 1 to 3, 5 and 7 let it through, and
 -- rows 4 and 9 each point by itself.
 module _ (p : Problem) (fits : Fits p) (damping : T (good_damping p.damping)) (rest : (good_baseline p.rig.pose.baseline && leb min_points (count p)) ≡ true)
-    (blocks : (i : ℕ) → i < count p → is_ok (check_views p.rig (correspondence_at p i)) ≡ true) where
+    (accepted : Accepted p (count p)) where
   -- what the tests of a point's views say
   record Seen (i : ℕ) : Type 0 where
     deviation : good_deviation (p.deviations ! i) ≡ true
@@ -96,7 +96,7 @@ module _ (p : Problem) (fits : Fits p) (damping : T (good_damping p.damping)) (r
 
   seen : (i : ℕ) → i < count p → Seen i
   seen i h =
-      let e = and_parts _ _ (accepted_is p.rig (correspondence_at p i) ∙ blocks i h) in
+      let e = and_parts _ _ (accepted_is p.rig (correspondence_at p i) ∙ accepted i h) in
       let d = and_parts _ _ e.0 in
       record { deviation = d.0; view1 = d.1; view2 = e.1 }
 
@@ -125,9 +125,9 @@ module _ (p : Problem) (fits : Fits p) (damping : T (good_damping p.damping)) (r
   unfolding project
   projections_pass i h = rw ((seen i h).view1, (seen i h).view2) refl
 
-  pub blocks_pass : check p ≡ Ok tt
+  pub accepted_passes : check p ≡ Ok tt
   unfolding check_values check_seen
-  blocks_pass =
+  accepted_passes =
       let r = and_parts (good_baseline p.rig.pose.baseline) (leb min_points (count p)) rest in
       let n = count p in
       fitting_check p fits

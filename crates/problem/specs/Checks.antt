@@ -1,6 +1,6 @@
 -- The checks of the whole step before any sum: rows 1 to 9 of document 01, "Refusals by number".
 -- A row is given if its condition holds and no earlier one does; the lowest index comes first.
-use Rattle.std.specs.Prelude.{ℕ, ◌*◌, ◌≤◌, ◌≡◌, Bool, not, ◌&&◌, List, [], ◌∷◌, eqb, leb, length, Float}
+use Rattle.std.specs.Prelude.{ℕ, ◌*◌, ◌<◌, ◌≤◌, ◌≡◌, Bool, true, not, ◌&&◌, List, [], ◌∷◌, eqb, leb, length, Float}
 use Rattle.std.specs.Result.{is_ok}
 use Rattle.std.specs.Float.Ieee.{le}
 use Rattle.numerics.specs.Binary64.{epsilon64}
@@ -11,8 +11,8 @@ use Rattle.refusal.specs.declared.View.{View}
 use Rattle.refusal.specs.declared.View.TheVariants.{First, Second}
 use Rattle.refusal.specs.declared.Refusal.TheVariants.{Lengths, TooManyPoints, Damping, InverseDeviation, Baseline, Point, TooFewPoints, Observation, Projection}
 use Rattle.point_block.specs.Damping.{good_damping}
-use Rattle.linearization.specs.Views.{good_deviation}
-use Rattle.problem.specs.Problem.{Problem, count, triple, observation, project}
+use Rattle.linearization.specs.Views.{good_deviation, check_views}
+use Rattle.problem.specs.Problem.{Problem, count, triple, observation, correspondence_at, project}
 
 -- a problem has 5 to 65,535 points
 abbrev pub min_points : ℕ
@@ -72,6 +72,10 @@ check_values p =
     ∷ unless (leb min_points (count p)) TooFewPoints
     ∷ check_seen p
     ∷ [])
+
+-- rows 4 and 9 let the first n points through, each by itself
+abbrev pub Accepted : Problem → ℕ → Type 0
+Accepted p n = (i : ℕ) → i < n → is_ok (check_views p.rig (correspondence_at p i)) ≡ true
 
 -- rows 1 to 3, the room apart
 unfoldable pub check_readable : Problem → Checked

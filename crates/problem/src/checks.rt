@@ -4,7 +4,7 @@
 // Rows 1 to 9 of a two-view problem over lent memory, before any sum: kernel/two_view/optimizer.rs,
 // residual.rs.
 
-ghost use Rattle.std.specs.Prelude.{◌≡◌, ◌<◌, ◌*◌, ◌&&◌, eqb, leb, Ok, T};
+ghost use Rattle.std.specs.Prelude.{◌≡◌, ◌<◌, ◌*◌, ◌&&◌, eqb, leb, true, Ok, T};
 ghost use Rattle.std.specs.Result.{result_and};
 ghost use Rattle.refusal.specs.First as First;
 ghost use Rattle.point_block.specs.Damping.{good_damping};
@@ -33,14 +33,15 @@ pub struct ReadableProblem<'a> {
 }
 
 impl<'a> Model for ReadableProblem<'a> {
-    ghost use Rattle.std.specs.Prelude.{◌≡◌};
+    ghost use Rattle.std.specs.Prelude.{◌≡◌, T};
+    ghost use Rattle.point_block.specs.Damping.{good_damping};
     ghost use Rattle.problem.specs.Problem.{Problem, of};
 
     ghost Value = { Problem };
 
     ghost view = { λ r. of r.fitting.problem.now };
 
-    ghost invariant = { λ r. r.damping ≡ r.fitting.problem.now.damping };
+    ghost invariant = { λ r. (r.damping ≡ r.fitting.problem.now.damping) × T (good_damping r.damping) };
 }
 
 /// A problem that rows 1 to 9 let through, row 1 without the room
@@ -96,10 +97,14 @@ impl<'a> ReadableProblem<'a> {
         self.damping
     }
 
-    /// Whether rows 5 and 7 let it through, which look at no point
+    /// Whether rows 5 and 7 let it through, which look at no point. Where rows 4 and 9 let each
+    /// point through as well, so do rows 1 to 9.
+    #[tactic(auto, using(crate::proofs::Passed::accepted_passes))]
     pub fn has_baseline_and_points(&self) -> bool
-        ensures { result ≡ (Checks.good_baseline self.now.rig.pose.baseline
+        ensures rows { result ≡ (Checks.good_baseline self.now.rig.pose.baseline
             && leb Checks.min_points (Problems.count self.now)) }
+        ensures passes { result ≡ true → Checks.Accepted self.now (Problems.count self.now)
+            → Checks.check self.now ≡ Ok tt }
     {
         good_baseline(self.fitting.problem.rig.pose.baseline)
             & (self.fitting.count() >= MINIMUM_POINTS)
