@@ -25,15 +25,14 @@ use Rattle.point_block.specs.Damping.{good_damping, is_zero}
 use Rattle.point_block.specs.Lone.{factor, lone_factor}
 use Rattle.point_block.specs.declared.PointBlockFactor.{PointBlockFactor}
 use Rattle.point_block.specs.declared.LoneFactor.{LoneFactor}
-use Rattle.schur.specs.declared.elimination.block_elimination.Change.{Change}
 use Rattle.point_block.proofs.Laws.{lone_factors, rcond_nonneg}
 use Rattle.linearization.specs.declared.linearize.LocalLinearization.{LocalLinearization}
 use Rattle.schur.specs.declared.reduced_system.ReducedSystem.{ReducedSystem}
 use Rattle.schur.specs.Model.{new_system}
 use Rattle.schur.specs.Elimination.{reduced_hessian, reduced_gradient, point_reduction}
-use Rattle.schur.specs.BlockElimination.{not_eliminated, eliminated, eliminate}
+use Rattle.schur.specs.BlockElimination.{Change, raised, not_eliminated, eliminated, eliminate}
 use Rattle.schur.proofs.Room.{blocks_taken, weak_taken_at_most}
-use Rattle.schur.specs.System.{max_blocks, raised, taken_with, taken_by, taken, add, handed_back}
+use Rattle.schur.specs.System.{max_blocks, taken_with, taken_by, taken, add, handed_back}
 use Rattle.add_sequences.specs.Calls.{Inputs, made, Call, at_damping, at_refused, next, results, after, after_blocks, Tally, factors, small_rcond, not_full, taken_in, tally, refusals, blocks_in, all, filter}
 use Rattle.linearization.proofs.Costs.{Costs, made_costs}
 use Rattle.add_sequences.specs.Claim.{CallByCall, final, TakesInAll, SameEquations, Further, Claim}

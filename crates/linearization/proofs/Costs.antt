@@ -1,7 +1,7 @@
 -- The cost and the squared residual of every made block, and of the block that is +0 everywhere,
 -- are numbers not below zero. Assumes nothing.
 use mathlib.Core.Path.{◌≡◌, refl, subst}
-use mathlib.Core.Bool.{Bool, true, false, not, ◌&&◌, cond}
+use mathlib.Core.Bool.{Bool, true, false, not, ◌&&◌}
 use mathlib.Core.List.{List, [], ◌∷◌}
 use lib.Dec.{T}
 use lib.Ieee.{Float, binary64, lt, le}

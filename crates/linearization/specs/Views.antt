@@ -7,7 +7,6 @@ use Rattle.numerics.specs.Parts.{is_finite}
 use Rattle.numerics.specs.Vectors.{◌!◌, tabulate}
 use Rattle.refusal.specs.First.{Checked, unless, first_of}
 use Rattle.refusal.specs.declared.View.TheVariants.{First, Second}
-use Rattle.refusal.specs.declared.Refusal.{Refusal}
 use Rattle.refusal.specs.declared.Refusal.TheVariants.{InverseDeviation, Projection}
 use Rattle.projection.specs.Pose.{rotate, camera_point}
 use Rattle.projection.specs.Projection.{linearized, pixel_projection}

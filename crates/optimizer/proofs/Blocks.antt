@@ -9,10 +9,11 @@ use native.Mathlib.Nat.{add-zero, add-suc, suc-add, zero-add}
 use native.Mathlib.Omega.{arith}
 use borrow.Author.Tests.{lt-ltb}
 use lib.Dec.{T, leb, le→leb}
-use lib.Ieee.{Float, is_nan}
+use lib.Ieee.{is_nan}
 use lib.Ieee.Bits.{is_true, is_false}
-use Rattle.std.specs.Prelude.{Result, Ok}
-use Rattle.std.proofs.lemmas.Bool.{and_parts}
+use mathlib.Core.Logic.{◌⊎◌, inl, inr}
+use Rattle.std.specs.Prelude.{Result, Ok, is_ok}
+use Rattle.std.proofs.lemmas.Bool.{and_parts, cases_lt}
 use Rattle.std.proofs.lemmas.Float.{le_left}
 use Rattle.numerics.specs.Vectors.{all_finite}
 use Rattle.refusal.specs.declared.Refusal.{Refusal}
@@ -26,7 +27,8 @@ use Rattle.schur.proofs.Room.{blocks_taken, weak_taken_at_most}
 use Rattle.add_sequences.specs.Calls.{Inputs, made, Call, at_damping, next, after, factors, blocks_in, all}
 use Rattle.add_sequences.proofs.Claim.{claim}
 use Rattle.problem.specs.Problem.{Problem, count, correspondence_at}
-use Rattle.problem.specs.Checks.{check}
+use Rattle.problem.specs.Checks.{Accepted, check}
+use Rattle.linearization.specs.Views.{check_views}
 use Rattle.problem.proofs.Passed.{passed, block_made}
 use Rattle.optimizer.specs.Assembly.{block_at, system_to, reduced_system}
 
@@ -44,6 +46,20 @@ weak_counted p (suc i) = weak_taken_at_most (system_to p i) (block_at p i) p.dam
 
 pub has_room : (p : Problem) (i : ℕ) → i < max_blocks → Free (system_to p i)
 has_room p i h = (rw (blocks_counted p i) h, weak_counted p i)
+
+-- ---- one more point of which rows 4 and 9 are asked
+
+pub accepted_next : (p : Problem) (i : ℕ) (a b : Bool) → (a ≡ true → Accepted p i) → b ≡ is_ok (check_views p.rig (correspondence_at p i)) → (a && b) ≡ true → Accepted p (i + 1)
+accepted_next p i a b before e t j h = by (cases_lt j i)
+  where
+    both : (a ≡ true) × (b ≡ true)
+    both = and_parts a b t
+
+    by : (j < i) ⊎ (i ≤ j) → is_ok (check_views p.rig (correspondence_at p j)) ≡ true
+    by (inl k) = before both.0 j k
+    by (inr k) =
+        let same : j ≡ i = omega arith in
+        rw same (sym e ∙ both.1)
 
 -- ---- the problem's blocks as calls of `add`, from an index on
 

@@ -26,7 +26,7 @@ use Rattle.problem.specs.Problem.{Problem, count, correspondence_at}
 use Rattle.problem.specs.Checks.{check}
 use Rattle.problem.proofs.Passed.{passed, block_made}
 use Rattle.optimizer.specs.Assembly.{block_at, reduced_system}
-use Rattle.optimizer.specs.PointSteps.{answer_at, step_at}
+use Rattle.optimizer.specs.PointSteps.{step_at}
 use Rattle.optimizer.specs.Step.{NoneRefused}
 use Rattle.optimizer.proofs.Blocks.{added, block_factors}
 

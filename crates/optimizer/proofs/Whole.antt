@@ -10,12 +10,12 @@ use Rattle.refusal.specs.First.{Checked, unless}
 use Rattle.refusal.specs.declared.Refusal.{Refusal}
 use Rattle.refusal.specs.declared.Refusal.TheVariants.{Lengths, NotFactored}
 use Rattle.solver.specs.Solver.{solve_positive_definite}
-use Rattle.schur.specs.Model.{is_valid}
+use Rattle.schur.specs.Model.{damped, is_valid}
 use Rattle.schur.specs.declared.reduced_system.ReducedSystem.{ReducedSystem}
 use Rattle.problem.specs.Problem.{Problem, count}
 use Rattle.problem.specs.Checks as Checks
-use Rattle.problem.proofs.Passed.{passed}
-use Rattle.optimizer.specs.Assembly.{reduced_system}
+use Rattle.problem.proofs.Passed.{passed, refused_first}
+use Rattle.optimizer.specs.Assembly.{system_to, reduced_system}
 use Rattle.optimizer.specs.PoseStep.{pose_step}
 use Rattle.optimizer.specs.PointSteps.{steps_to, sums_to}
 use Rattle.optimizer.specs.Results.{no_result, finished}
@@ -48,23 +48,26 @@ lengths_agree p room t = by (eqb room (3 * count p)) refl
 
 -- ---- a problem that is refused has the checks' refusal, and one that is let through stays as it is
 
--- what the test of rows 1 to 9 answers
-abbrev tested : Problem → Result Problem Refusal
-tested p = result_and (Checks.check p) (Ok p)
+-- what a test of a problem answers
+abbrev tested : Checked → Problem → Result Problem Refusal
+tested r p = result_and r (Ok p)
 
-refused_by : (p : Problem) (e : Refusal) → tested p ≡ Err e → Checks.check p ≡ Err e
-refused_by p e h = by (Checks.check p) h
-  where
-    by : (r : Checked) → result_and r (Ok p) ≡ Err e → r ≡ Err e
-    by (Ok u) k = absurd (cc)
-    by (Err x) k = cc
+refused_by : (r : Checked) (p : Problem) (e : Refusal) → tested r p ≡ Err e → r ≡ Err e
+refused_by (Ok u) p e k = absurd (cc)
+refused_by (Err x) p e k = cc
 
-let_through : (p q : Problem) → tested p ≡ Ok q → (Checks.check p ≡ Ok tt) × (q ≡ p)
-let_through p q h = by (Checks.check p) h
-  where
-    by : (r : Checked) → result_and r (Ok p) ≡ Ok q → (r ≡ Ok tt) × (q ≡ p)
-    by (Ok u) k = (refl, cc)
-    by (Err x) k = absurd (cc)
+pub let_through : (r : Checked) (p q : Problem) → tested r p ≡ Ok q → (r ≡ Ok tt) × (q ≡ p)
+let_through (Ok u) p q k = (refl, cc)
+let_through (Err x) p q k = absurd (cc)
+
+-- what rows 1 to 3 leave, and then rows 4 to 9
+pub in_turn : (p q : Problem) (r : Result Problem Refusal) → tested (Checks.check_readable p) p ≡ Ok q → tested (Checks.check q) q ≡ r → tested (Checks.check p) p ≡ r
+in_turn p q r h k = ap (λ (o : Problem). tested (Checks.check o) o) (sym (let_through _ p q h).1) ∙ k
+
+-- the sums, made before rows 4 to 9 are asked and damped after them
+pub damped_sums : (o q : Problem) (t s : ReducedSystem) (d : Float) → tested (Checks.check o) o ≡ Ok q → t ≡ system_to o (count o) → d ≡ q.damping → s ≡ damped t d → s ≡ reduced_system q
+unfolding reduced_system
+damped_sums o q t s d h e f g = rw (g, f, e, (let_through _ o q h).1) refl
 
 -- ---- the ways out of the whole step
 
@@ -77,15 +80,18 @@ module _ (p : Problem) (room : List Float) where
   wrong_room t = refuses Lengths (lengths_differ p (length room) t)
 
   module _ (t : length room ≡ length p.points) where
-    pub checks_refused : (e : Refusal) (r : Result StepResult Refusal) → tested p ≡ Err e → r ≡ Err e → Done p room r room
-    checks_refused e r h k = rw k (refuses e (lengths_agree p (length room) t ∙ refused_by p e h))
+    pub unreadable : (e : Refusal) (r : Result StepResult Refusal) → tested (Checks.check_readable p) p ≡ Err e → r ≡ Err e → Done p room r room
+    unreadable e r h k = rw k (refuses e (lengths_agree p (length room) t ∙ refused_first p e (refused_by _ p e h)))
 
-    module _ (q : Problem) (h : tested p ≡ Ok q) where
+    pub checks_refused : (e : Refusal) (r : Result StepResult Refusal) → tested (Checks.check p) p ≡ Err e → r ≡ Err e → Done p room r room
+    checks_refused e r h k = rw k (refuses e (lengths_agree p (length room) t ∙ refused_by _ p e h))
+
+    module _ (q : Problem) (h : tested (Checks.check p) p ≡ Ok q) where
       ok : Checks.check p ≡ Ok tt
-      ok = (let_through p q h).0
+      ok = (let_through _ p q h).0
 
       same : q ≡ p
-      same = (let_through p q h).1
+      same = (let_through _ p q h).1
 
       -- the room has three numbers a point
       pub room_fits : length room ≡ 3 * count q

@@ -6,7 +6,7 @@ ghost use Rattle.problem.specs.Problem as Problems;
 ghost use Rattle.optimizer.specs.Step as Steps;
 
 use crate::{StepResult, assembly, point_steps, pose_step};
-use problem::checks::CheckedProblem;
+use problem::checks::ReadableProblem;
 use problem::correspondences::Problem;
 use refusal::Refusal;
 
@@ -18,8 +18,10 @@ pub fn step(problem: &Problem, room: &mut [f64]) -> Result<StepResult, Refusal>
     if room.len() != problem.points.len() {
         return Err(Refusal::Lengths);
     }
-    let checked = CheckedProblem::new(problem)?;
-    let system = assembly::reduced_system(&checked);
+    let readable = ReadableProblem::new(problem)?;
+    let blocks = assembly::block_sums(&readable);
+    let checked = assembly::checked(readable, blocks.accepted)?;
+    let system = blocks.system.damped(checked.damping());
     if !system.is_valid() {
         return Err(Refusal::NotFactored);
     }

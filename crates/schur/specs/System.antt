@@ -1,5 +1,5 @@
 -- A block taken into the reduced system: `add` of schur.rs. Document 01, "The system".
-use Rattle.std.specs.Prelude.{ℕ, suc, ◌<◌, ◌≤◌, Bool, ◌&&◌, cond, leb, ltb, Float, Result, Ok, Err}
+use Rattle.std.specs.Prelude.{ℕ, suc, ◌<◌, ◌≤◌, ◌&&◌, cond, leb, ltb, Float, Result, Ok, Err}
 use Rattle.numerics.specs.Extrema.{max}
 use Rattle.numerics.specs.Binary64.{◌⊕◌}
 use Rattle.refusal.specs.Answer.{answer}

@@ -1,4 +1,4 @@
-use Rattle.std.proofs.Common.{◌≡◌, ◌-◌}
+use Rattle.std.proofs.Common.{◌≡◌}
 use Rattle.problem.specs.Problem.{count}
 use Rattle.optimizer.specs.PointSteps.{sums_to}
 use Rattle.optimizer.proofs.Passes.{Filled}
