@@ -21,7 +21,7 @@ pub fn pixel_projection(camera: &[f64], observation: &[f64], point: &[f64], out:
         return answers::lengths();
     }
     let projected = projection::pixel_projection(
-        flat::camera(slices::whole(camera)),
+        &flat::camera(slices::whole(camera)),
         slices::whole(observation),
         slices::whole(point),
     );
@@ -39,7 +39,7 @@ pub fn linearize_point(rig: &[f64], correspondence: &[f64], out: &mut [f64]) -> 
         return answers::lengths();
     }
     let block = linearization::linearize_point(
-        flat::rig(rig),
+        &flat::rig(rig),
         flat::correspondence(correspondence),
     );
     answers::answer(block.map(flat::numbers::block_numbers), out)

@@ -70,7 +70,7 @@ fn block(point: [f64; 3]) -> Result<LocalLinearization, Refusal> {
         camera2: camera,
         pose,
     };
-    linearization::linearize_point(rig, correspondence)
+    linearization::linearize_point(&rig, correspondence)
 }
 
 // A line: the two refusals' numbers, 0 where there is none

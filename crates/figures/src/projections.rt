@@ -15,7 +15,7 @@ pub fn print(rt: &impl Print) -> io::Result<()> {
     show_projected(
         rt,
         "point (1, 2, 4)",
-        projection::pixel_projection(camera, [1.5, 1.0], [1.0, 2.0, 4.0]),
+        projection::pixel_projection(&camera, [1.5, 1.0], [1.0, 2.0, 4.0]),
     )?;
     plain(
         rt,
@@ -53,7 +53,7 @@ fn plain(rt: &impl Print, name: &str, point: [f64; 3]) -> io::Result<()> {
     show_projected(
         rt,
         name,
-        projection::pixel_projection(camera, [0.0, 0.0], point),
+        projection::pixel_projection(&camera, [0.0, 0.0], point),
     )
 }
 

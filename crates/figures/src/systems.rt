@@ -103,7 +103,7 @@ fn seen(x: f64, y: f64, off: f64) -> Result<LocalLinearization, Refusal> {
         camera2: camera,
         pose,
     };
-    linearization::linearize_point(rig, correspondence)
+    linearization::linearize_point(&rig, correspondence)
 }
 
 // `add` on a system with these counts: its refusal, or the counts that it leaves

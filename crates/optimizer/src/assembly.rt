@@ -35,7 +35,9 @@ pub fn reduced_system(problem: &CheckedProblem) -> ReducedSystem
 }
 
 // The sums over a problem whose points are not tested yet: each is tested as its block is made.
+// Inlined, so that the system is the caller's own and the loop does not write it to its result.
 #[tactic(auto, unfolding(crate::specs::Assembly::system_to))]
+#[inline(always)]
 pub(crate) fn block_sums(problem: &ReadableProblem) -> BlockSums
     ensures system { result.system ≡ Assembly.system_to problem.now (Problems.count problem.now) }
     ensures accepted { result.accepted ≡ true
