@@ -83,7 +83,7 @@ module _ (n d k r : ℕ) (e : n ≡ d * 2 ^ (2 * k)) (lo : 2 ^ 104 ≤ d) (hi : 
   pub root_low : 2 ^ 52 ≤ r
   root_low = nearest_low d r (2 ^ 52) lo near
 
-  pub root_high : r ≤ 2 ^ 53
+  root_high : r ≤ 2 ^ 53
   root_high = nearest_high d r (2 ^ 53) hi near
 
   module _ (small : k < 2000) where

@@ -35,13 +35,11 @@ pub fn sqrt(x: f64) -> f64
     ensures result { result ≡ Root.sqrt x }
     ensures nearest { T (is_finite x) → T (lt zero x) → CorrectlyRounded x result }
 {
-    if 0.0 < x {
+    if f64::MIN_POSITIVE <= x {
         let b = f64::to_bits(x);
-        let exponent = b / LEAD;
-        // Neither 0, as of a subnormal value, nor 2047, as of +∞
-        if exponent.wrapping_sub(1) < 2046 {
+        if b < INFINITY {
             let root = guess(b);
-            let power = exponent + 1021;
+            let power = b / LEAD + 1021;
             if is_nearest(radicand(b % LEAD + LEAD, power), root) {
                 return f64::from_bits(power / 2 * LEAD + root);
             }

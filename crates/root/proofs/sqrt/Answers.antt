@@ -2,38 +2,21 @@
 -- a normal value, and every other value goes by `sqrt_by_search`. Assumes nothing.
 use mathlib.Core.Path.{◌≡◌, sym, ◌∙◌, subst}
 use mathlib.Core.Bool.{true}
-use Prim.Native.Nat.{ℕ, ◌+◌, ◌*◌, ◌/◌, ◌%◌, ◌^◌, ◌≤◌, ◌<◌}
+use Prim.Native.Nat.{ℕ, ◌+◌, ◌*◌, ◌/◌, ◌^◌, ◌<◌}
 use native.Mathlib.Omega.{arith}
 use lib.Dec.{T}
 use lib.Ieee.{Float, binary64, fits, lt, of_bits, to_bits}
-use lib.Ieee.Bits.{to_bits-lt}
 use Rattle.numerics.specs.Binary64 as Binary64
 use Rattle.numerics.specs.Parts.{is_finite}
 use Rattle.root.specs.Root.{sqrt, CorrectlyRounded}
-use Rattle.root.specs.Whole.{NearestRoot}
 use Rattle.root.proofs.Correct.{sqrt_correct}
-use Rattle.root.proofs.Read.{held, normal, no_nan, root}
-use Rattle.root.proofs.Rounded.{root_pattern, root_high}
+use Rattle.root.proofs.Read.{held, above_least, low_of_least, normal, no_nan, root}
+use Rattle.root.proofs.Rounded.{root_pattern}
 use Rattle.root.proofs.sqrt.Goals as goal
-
--- the pattern of a normal value: the difference that is tested wraps at a field of 0
-record Normal (b : ℕ) : Type 0 where
-  low : 2 ^ 52 ≤ b
-  high : b < 0x7ff0_0000_0000_0000
-  small : (b / 2 ^ 52 + 1021) / 2 < 2000
-
-tested : (b : ℕ) → b < 2 ^ 64 → (b / 2 ^ 52 + 18446744073709551615) % 18446744073709551616 < 2046 → Normal b
-tested b l h = record { low = omega arith; high = omega arith; small = omega arith }
-
-is_normal : (x : Float) → fits binary64 x ≡ true → (to_bits binary64 x / 2 ^ 52 + 18446744073709551615) % 18446744073709551616 < 2046 → Normal (to_bits binary64 x)
-is_normal x f h = tested (to_bits binary64 x) (to_bits-lt binary64 x (held x f)) h
 
 -- what is the definition's root is IEEE 754's, where x is finite and above zero
 nearest : (x r : Float) → fits binary64 x ≡ true → r ≡ sqrt x → T (is_finite x) → T (lt Binary64.zero x) → CorrectlyRounded x r
 nearest x r f e finite above = subst (CorrectlyRounded x) (sym e) (sqrt_correct x (held x f) finite above)
-
-pub overflow_add-power : goal.overflow_add-power
-overflow_add-power c = let h = (is_normal _ c.well_formed.0.1 c.if-exponent-lt2046.true).high in omega arith
 
 -- the guess is the nearest root
 module _ (c : goal.Then-is_nearest) where
@@ -43,32 +26,23 @@ module _ (c : goal.Then-is_nearest) where
   abbrev half : ℕ
   half = (b / 2 ^ 52 + 1021) / 2
 
-  abbrev guess : ℕ
-  guess = c.guess-root.result
+  above : lt Binary64.zero c.args.x ≡ true
+  above = above_least c.args.x c.if-x.true
 
-  plain : Normal b
-  plain = is_normal c.args.x c.well_formed.0.1 c.if-exponent-lt2046.true
+  pattern : half * 2 ^ 52 + c.guess-root.result ≡ to_bits binary64 (sqrt (of_bits binary64 b))
+  pattern =
+      let s = c.radicand.ensures in
+      sym (root_pattern _ c.radicand.result half c.guess-root.result s.same s.low s.high (c.if-is_nearest.ensures tt) (halved b c.if-b-lt-INFINITY.true))
+      ∙ normal b (low_of_least c.args.x (held _ c.well_formed.0.1) c.if-x.true) c.if-b-lt-INFINITY.true
+    where
+      halved : (b : ℕ) → b < 0x7ff0_0000_0000_0000 → (b / 2 ^ 52 + 1021) / 2 < 2000
+      halved b h = omega arith
 
-  near : NearestRoot c.radicand.result guess
-  near = c.if-is_nearest.ensures tt
-
-  pattern : half * 2 ^ 52 + guess ≡ to_bits binary64 (sqrt (of_bits binary64 b))
-  pattern = let s = c.radicand.ensures in sym (root_pattern _ c.radicand.result half guess s.same s.low s.high near plain.small) ∙ normal b plain.low plain.high
-
-  few : guess ≤ 2 ^ 53
-  few = let s = c.radicand.ensures in root_high _ c.radicand.result half guess s.same s.low s.high near
-
-  value : of_bits binary64 (half * 2 ^ 52 + guess) ≡ sqrt c.args.x
-  value = root c.args.x (held _ c.well_formed.0.1) c.if-x.true plain.high _ pattern
-
-pub overflow_mul-result : goal.overflow_mul-result
-overflow_mul-result c = let s = (plain c).small in omega arith
-
-pub overflow_add-result : goal.overflow_add-result
-overflow_add-result c = let s = (plain c).small in let r = few c in omega arith
+  value : of_bits binary64 (half * 2 ^ 52 + c.guess-root.result) ≡ sqrt c.args.x
+  value = root c.args.x (held _ c.well_formed.0.1) above c.if-b-lt-INFINITY.true _ pattern
 
 pub float_from_bits-result : goal.float_from_bits-result
-float_from_bits-result c = no_nan c.args.x (held _ c.well_formed.0.1) c.if-x.true (plain c).high _ (pattern c)
+float_from_bits-result c = no_nan c.args.x (held _ c.well_formed.0.1) (above c) c.if-b-lt-INFINITY.true _ (pattern c)
 
 pub returns-then-is_nearest : goal.returns-then-is_nearest
 returns-then-is_nearest c = record { result = value c; nearest = nearest _ _ c.well_formed.0.1 (value c) }
