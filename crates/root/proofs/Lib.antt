@@ -3,4 +3,5 @@ mod Whole
 mod Patterns
 mod Rounded
 mod Correct
+mod Read
 pub mod Signs

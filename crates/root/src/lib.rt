@@ -1,14 +1,14 @@
 //! The square root of IEEE 754, from bits and whole numbers alone.
 //!
 //! The digits of x are scaled to a d of 53 or 54 of them with an even power of two beside it; the
-//! root of d * 2 ^ 52 to the nearest whole number then has the 53 digits of the result. It is
-//! guessed by a polynomial from a table, and the guess is tested by its square: no division, and
-//! nothing to know of the table.
+//! root of d * 2 ^ 52 to the nearest whole number then has the 53 digits of the result. A
+//! polynomial from a table guesses it, and a test by its square accepts it or has it searched for:
+//! there is no division, and nothing to know of the table.
 #![tactic(auto)]
 
 mod table;
 
-ghost use Rattle.std.specs.Prelude.{◌≡◌, ◌+◌, ◌*◌, ◌^◌, ◌≤◌, ◌<◌, T};
+ghost use Rattle.std.specs.Prelude.{◌≡◌, ◌+◌, ◌*◌, ◌/◌, ◌^◌, ◌≤◌, ◌<◌, T};
 ghost use Rattle.std.specs.Float.Ieee as Ieee;
 ghost use Rattle.std.specs.Float.Ieee.{lt};
 ghost use Rattle.std.specs.Float.{binary64};
@@ -29,9 +29,30 @@ const LEAD: u64 = 0x10_0000_0000_0000;
 /// `f64::sqrt`. For a finite value above zero it is the binary64 nearest to the exact root, by
 /// IEEE 754. A zero of either sign, +∞ and NaN are their own roots; what lies below zero has a NaN
 /// for one.
+// Callers take many roots, and what is inlined here is long: so they share it.
+#[inline(never)]
 pub fn sqrt(x: f64) -> f64
     ensures result { result ≡ Root.sqrt x }
     ensures nearest { T (is_finite x) → T (lt zero x) → CorrectlyRounded x result }
+{
+    if f64::MIN_POSITIVE <= x {
+        let b = f64::to_bits(x);
+        if b < INFINITY {
+            let root = guess(b);
+            let power = b / LEAD + 1021;
+            if is_nearest(radicand(b % LEAD + LEAD, power), root) {
+                return f64::from_bits(power / 2 * LEAD + root);
+            }
+        }
+    }
+    sqrt_by_search(x)
+}
+
+// `sqrt` of any value. Kept out of `sqrt`, whose registers it would take: few values come here.
+#[cold]
+#[inline(never)]
+fn sqrt_by_search(x: f64) -> f64
+    ensures { result ≡ Root.sqrt x }
 {
     if 0.0 < x {
         let b = f64::to_bits(x);
@@ -57,34 +78,38 @@ fn root_of_pattern(b: u64) -> u64
 }
 
 // The pattern of √(m * 2 ^ (power + 52)) units of 2 ^ -1074, where m has 53 digits.
-#[inline(always)]
 fn root_of_digits(m: u64, power: u64) -> u64
     requires { (2 ^ 52 ≤ m) × (m < 2 ^ 53) × (power < 4000) }
     ensures { result ≡ Ieee.to_bits binary64 (Root.nearest_root (m * 2 ^ (power + 52))) }
 {
-    let value = if power % 2 == 0 { m } else { 2 * m };
-    power / 2 * LEAD + nearest_root(value, guess(m, power))
+    power / 2 * LEAD + search(radicand(m, power), guess(power * LEAD + m))
 }
 
-// The whole number nearest to the root of d * 2 ^ 52: the guess, where it is that number.
+// What the root is taken of: m * 2 ^ (power + 52) without an even power of two, so that 105 or 106
+// digits are left. Inlined, as all is that `sqrt` does before it accepts a guess.
 #[inline(always)]
-fn nearest_root(d: u64, guess: u64) -> u64
-    requires { (2 ^ 52 ≤ d) × (d < 2 ^ 54) }
-    ensures { NearestRoot (d * 2 ^ 52) result }
+fn radicand(m: u64, power: u64) -> u128
+    requires { (2 ^ 52 ≤ m) × (m < 2 ^ 53) }
+    ensures low { 2 ^ 104 ≤ result }
+    ensures high { result < 2 ^ 106 }
+    ensures same { m * 2 ^ (power + 52) ≡ result * 2 ^ (2 * (power / 2)) }
 {
-    let n = d as u128 * LEAD as u128;
-    let root = guess as u128;
-    let square = root * root;
-    if (square < n + root) & (n <= square + root) {
-        return guess;
-    }
-    search(n, guess)
+    let d = if power % 2 == 0 { m } else { 2 * m };
+    d as u128 * LEAD as u128
 }
 
-// The whole number nearest to the root of n, by steps up and then down from any number. A good
-// guess leads here for few n, and then by one step.
-#[cold]
-#[inline(never)]
+// Both comparisons of `NearestRoot` in one: where root * root is not below n + root, the difference
+// wraps to more than any 2 * root. Inlined for `sqrt`.
+#[inline(always)]
+fn is_nearest(n: u128, root: u64) -> bool
+    requires { (0 < n) × (n < 2 ^ 106) }
+    ensures { T result → NearestRoot n root }
+{
+    let root = root as u128;
+    (n + root - 1).wrapping_sub(root * root) < 2 * root
+}
+
+// The whole number nearest to the root of n, by steps up and then down from any number.
 fn search(n: u128, start: u64) -> u64
     requires { (0 < n) × (n < 2 ^ 106) }
     ensures { NearestRoot n result }
@@ -99,21 +124,23 @@ fn search(n: u128, start: u64) -> u64
     root as u64
 }
 
-// The polynomial of the row of m and power, with its powers of u side by side, so that few of its
-// products wait for one another. It promises nothing: the arithmetic wraps.
+// The polynomial of the row that the last digit of the exponent and the 7 digits behind it choose,
+// at the fraction u that the digits behind those are. It promises nothing: its arithmetic wraps.
+// Its terms are paired so that few products wait for one another. Inlined for `sqrt`.
 #[inline(always)]
-fn guess(m: u64, power: u64) -> u64 {
-    let (a, b, c, d, e, f) = ROWS[power.wrapping_mul(128).wrapping_add(m >> 45) as usize % 256];
-    let u = m << 19;
+fn guess(pattern: u64) -> u64 {
+    let row = &ROWS[(pattern >> 45) as usize % 256];
+    let u = pattern << 19;
     let square = high(u, u);
-    let fourth = high(square, square);
-    let line = a.wrapping_add(high(b, u));
-    let bend = high(c.wrapping_sub(high(d, u)), square);
-    let rest = high((e as u64).wrapping_sub(high(f as u64, u)), fourth);
-    line.wrapping_sub(bend).wrapping_sub(rest) >> 10
+    let bend = row.c2.wrapping_sub(high(row.c3, u));
+    let rest = (row.c4 as u64).wrapping_sub(high(row.c5 as u64, u));
+    let line = row.c0.wrapping_add(high(row.c1, u));
+    line.wrapping_sub(high(bend, square))
+        .wrapping_sub(high(rest, high(square, square)))
+        >> 10
 }
 
-// x * y / 2 ^ 64: a product of x and the fraction that y stands for
+// x * y / 2 ^ 64: a product of x and the fraction y / 2 ^ 64. One instruction, inlined.
 #[inline(always)]
 fn high(x: u64, y: u64) -> u64 {
     (x as u128 * y as u128 >> 64) as u64

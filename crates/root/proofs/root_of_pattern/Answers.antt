@@ -1,16 +1,17 @@
 -- `root::root_of_pattern` meets its contract: a subnormal pattern's digits are moved up to 53 of
 -- them, and the power of two beside them goes down as far. Assumes nothing.
 use mathlib.Core.Path.{◌≡◌, sym, ap, ◌∙◌}
-use Prim.Native.Nat.{ℕ, suc, ◌+◌, ◌-◌, ◌*◌, ◌/◌, ◌%◌, ◌^◌, ◌≤◌, ◌<◌}
-use native.Mathlib.Nat.{le_trans, le_of_eq, lt_of_lt_of_le, mul_assoc, mul-pos, add_comm, mul-le-mul_right, mul-lt-mul_of_pos_right, mod-eq_of_lt, lt_of_not-le, lt_irrefl}
+use Prim.Native.Nat.{ℕ, suc, ◌+◌, ◌-◌, ◌*◌, ◌%◌, ◌^◌, ◌≤◌, ◌<◌}
+use native.Mathlib.Nat.{le_trans, le_of_eq, lt_of_lt_of_le, mul_assoc, mul-le-mul_right, mul-lt-mul_of_pos_right, mod-eq_of_lt, lt_of_not-le, lt_irrefl}
 use native.Mathlib.Omega.{arith}
 use lib.Count.{count_leading_zeros, leading_top}
 use lib.Dec.{lit≤}
 use lib.Pow.{pow-add, pow_pos, pow_mono}
 use lib.Ieee.{binary64, of_bits, to_bits}
 use Rattle.root.specs.Root.{nearest_root, sqrt}
-use Rattle.root.proofs.Patterns.{low_value, normal_value}
+use Rattle.root.proofs.Patterns.{low_value}
 use Rattle.root.proofs.Rounded.{sqrt_of}
+use Rattle.root.proofs.Read.{normal}
 use Rattle.root.proofs.root_of_pattern.Goals as goal
 
 -- what the count of leading zeros gives for a pattern below 2 ^ 52: moved up by z - 11 places,
@@ -49,24 +50,6 @@ subnormal b s p h k =
   where
     whole : (s : ℕ) → s ≤ 1022 → s + (1022 - s + 52) ≡ 1074
     whole s k = omega arith
-
--- from 2 ^ 52 on the exponent's field is the power
-normal : (b : ℕ) → 2 ^ 52 ≤ b → b < 0x7ff0_0000_0000_0000
-    → to_bits binary64 (nearest_root ((b % 2 ^ 52 + 2 ^ 52) * 2 ^ (b / 2 ^ 52 + 1021 + 52))) ≡ to_bits binary64 (sqrt (of_bits binary64 b))
-normal b lo hi = go (b / 2 ^ 52 - 1) (omega arith)
-  where
-    go : (x : ℕ) → b / 2 ^ 52 ≡ suc x
-        → to_bits binary64 (nearest_root ((b % 2 ^ 52 + 2 ^ 52) * 2 ^ (b / 2 ^ 52 + 1021 + 52))) ≡ to_bits binary64 (sqrt (of_bits binary64 b))
-    go x e =
-        ap (λ (n : ℕ). to_bits binary64 (nearest_root n))
-        (ap (λ (n : ℕ). n * 2 ^ (b / 2 ^ 52 + 1021 + 52)) (add_comm (b % 2 ^ 52) (2 ^ 52))
-        ∙ ap (λ (n : ℕ). (2 ^ 52 + b % 2 ^ 52) * 2 ^ n) (sum (b / 2 ^ 52) x e)
-        ∙ ap (λ (n : ℕ). (2 ^ 52 + b % 2 ^ 52) * n) (pow-add 2 x 1074)
-        ∙ sym (mul_assoc (2 ^ 52 + b % 2 ^ 52) (2 ^ x) (2 ^ 1074)))
-        ∙ ap (to_bits binary64) (sym (sqrt_of (of_bits binary64 b) ((2 ^ 52 + b % 2 ^ 52) * 2 ^ x) (normal_value b x hi e) (mul-pos (omega arith) (pow_pos x))))
-      where
-        sum : (y x : ℕ) → y ≡ suc x → y + 1021 + 52 ≡ x + 1074
-        sum y x e = omega arith
 
 pub overflow_sub-shift : goal.overflow_sub-shift
 overflow_sub-shift c = (moved c.args.b c.requires.0 c.if-b-lt-LEAD.true).enough

@@ -1,157 +1,51 @@
--- `root::sqrt` meets its contract: what lies above zero and is finite goes by its pattern, and
--- every other value by cases. Assumes nothing.
-use mathlib.Core.Path.{◌≡◌, refl, sym, ap, subst, ◌∙◌}
-use mathlib.Core.Bool.{Bool, true, false, not, cond, false≢true}
-use Prim.Native.Nat.{ℕ, zero, suc, ◌+◌, ◌*◌, ◌/◌, ◌%◌, ◌^◌, ◌≤◌, ◌<◌, zero-le}
-use native.Mathlib.Nat.{zero-lt-suc, mul-pos, mul-one, zero-mul, add-zero}
+-- `root::sqrt` meets its contract: a guess that is the nearest root has the digits of the root of
+-- a normal value, and every other value goes by `sqrt_by_search`. Assumes nothing.
+use mathlib.Core.Path.{◌≡◌, sym, ◌∙◌, subst}
+use mathlib.Core.Bool.{true}
+use Prim.Native.Nat.{ℕ, ◌+◌, ◌*◌, ◌/◌, ◌^◌, ◌<◌}
 use native.Mathlib.Omega.{arith}
-use borrow.Author.Tests.{lt-ltb, le-ltb}
-use lib.Dec.{T, leb, ltb, eqb, nleb→lt}
-use lib.Ieee.{Float, nan, inf, fin, binary64, fits, is_nan, lt, odd, of_bits, of_fields, to_bits, nan_bits, up, down}
-use lib.Ieee.Bits.{of_bits-to_bits, nan_bits_is}
-use lib.Ieee.Fits.{up_pos}
+use lib.Dec.{T}
+use lib.Ieee.{Float, binary64, fits, lt, of_bits, to_bits}
 use Rattle.numerics.specs.Binary64 as Binary64
 use Rattle.numerics.specs.Parts.{is_finite}
-use Rattle.numerics.proofs.Specials.{nan_of_pattern}
-use Rattle.numerics.proofs.Monotone.{finite_not_nan}
 use Rattle.root.specs.Root.{sqrt, CorrectlyRounded}
-use Rattle.root.proofs.Patterns.{plain_finite}
 use Rattle.root.proofs.Correct.{sqrt_correct}
+use Rattle.root.proofs.Read.{held, above_least, low_of_least, normal, no_nan, root}
+use Rattle.root.proofs.Rounded.{root_pattern}
 use Rattle.root.proofs.sqrt.Goals as goal
-
--- ---- above zero
-some_bits : (x : Float) → T (fits binary64 x) → lt Binary64.zero x ≡ true → 0 < to_bits binary64 x
-unfolding lt of_bits
-some_bits x f l = go (to_bits binary64 x) (of_bits-to_bits binary64 x f)
-  where
-    none : lt Binary64.zero Binary64.zero ≡ false
-    none = refl
-
-    go : (b : ℕ) → of_bits binary64 b ≡ x → 0 < b
-    go zero e = absurd (false≢true (sym none ∙ ap (lt Binary64.zero) e ∙ l))
-    go (suc b) e = zero-lt-suc b
-
--- the root of a finite one is IEEE 754's, and so it has a pattern that is read back
-correct : (x : Float) → T (fits binary64 x) → lt Binary64.zero x ≡ true → to_bits binary64 x < 0x7ff0_0000_0000_0000 → CorrectlyRounded x (sqrt x)
-correct x f l h = sqrt_correct x f (subst (λ (y : Float). T (is_finite y)) (of_bits-to_bits binary64 x f) (plain_finite (to_bits binary64 x) h)) (subst T (sym l) tt)
-
-no_nan_bits : (x : Float) → CorrectlyRounded x (sqrt x) → T (not (nan_bits binary64 (to_bits binary64 (sqrt x))))
-no_nan_bits x c =
-    subst (λ (b : Bool). T (not b))
-    (sym (nan_bits_is binary64 (to_bits binary64 (sqrt x)) ∙ ap is_nan (of_bits-to_bits binary64 (sqrt x) c.held)))
-    (finite_not_nan (sqrt x) c.finite)
-
--- ---- a pattern from +∞'s on is +∞'s, a NaN's or a negative value's
-odd_below : (q x : ℕ) → lt Binary64.zero (odd 53 true q x 1074) ≡ false
-unfolding lt of_bits odd
-odd_below zero x = refl
-odd_below (suc q) x = refl
-
-below_zero : (x t : ℕ) → lt Binary64.zero (of_fields binary64 true x t) ≡ false
-unfolding lt of_bits of_fields
-below_zero zero t = odd_below t 0
-below_zero (suc x) t = go (eqb (suc x) 2047) (eqb t 0)
-  where
-    go : (a b : Bool) → lt Binary64.zero (cond a (cond b (inf true) nan) (odd 53 true (2 ^ 52 + t) x 1074)) ≡ false
-    go true true = refl
-    go true false = refl
-    go false b = odd_below (2 ^ 52 + t) x
-
-own_root : (s : Bool) (x t : ℕ) → (T (not s) → x ≡ 2047) → lt Binary64.zero (of_fields binary64 s x t) ≡ true → of_fields binary64 s x t ≡ sqrt (of_fields binary64 s x t)
-unfolding of_fields sqrt
-own_root true x t h l = absurd (false≢true (sym (below_zero x t) ∙ l))
-own_root false x t h l = subst (λ (y : ℕ). of_fields binary64 false y t ≡ sqrt (of_fields binary64 false y t)) (sym (h tt)) (go (eqb t 0))
-  where
-    go : (b : Bool) → cond b (inf false) nan ≡ sqrt (cond b (inf false) nan)
-    go true = refl
-    go false = refl
-
-at_infinity : (b : ℕ) → 0x7ff0_0000_0000_0000 ≤ b → lt Binary64.zero (of_bits binary64 b) ≡ true → of_bits binary64 b ≡ sqrt (of_bits binary64 b)
-unfolding of_bits
-at_infinity b h l = own_root (leb (2 ^ 63) b) (b % 2 ^ 63 / 2 ^ 52) (b % 2 ^ 52) (λ n. let k = nleb→lt (2 ^ 63) b n in omega arith) l
-
-infinite : (x : Float) → T (fits binary64 x) → 0x7ff0_0000_0000_0000 ≤ to_bits binary64 x → lt Binary64.zero x ≡ true → x ≡ sqrt x
-infinite x f h l =
-    subst (λ (y : Float). y ≡ sqrt y) (of_bits-to_bits binary64 x f)
-    (at_infinity (to_bits binary64 x) h (ap (lt Binary64.zero) (of_bits-to_bits binary64 x f) ∙ l))
-
--- ---- not above zero
-nothing_below : (a d : ℕ) → ltb a (0 * d) ≡ false
-nothing_below a d = rw zero-mul (le-ltb a 0 zero-le)
-
-some_above : (m a d : ℕ) → 0 < a → ltb (0 * d) (suc m * a * 1) ≡ true
-some_above m a d p = rw (zero-mul, mul-one) (lt-ltb 0 (suc m * a) (mul-pos (zero-lt-suc m) p))
-
-no_sum : (a d : ℕ) → ltb 0 (0 * a * 1 + 0 * d) ≡ false
-no_sum a d = simp zero-mul
-
-some_sum : (m a d : ℕ) → 0 < a → ltb 0 (suc m * a * 1 + 0 * d) ≡ true
-some_sum m a d p = rw (mul-one, zero-mul, add-zero) (lt-ltb 0 (suc m * a) (mul-pos (zero-lt-suc m) p))
-
-negative_root : (x : Float) → lt x Binary64.zero ≡ true → nan ≡ sqrt x
-unfolding lt of_bits sqrt
-negative_root nan l = refl
-negative_root (inf true) l = refl
-negative_root (inf false) l = absurd (false≢true l)
-negative_root (fin true zero e) l = absurd (false≢true (sym (no_sum (up e) (down e)) ∙ l))
-negative_root (fin true (suc m) e) l = refl
-negative_root (fin false zero e) l = absurd (false≢true (sym (nothing_below (0 * up e * 1) (down e)) ∙ l))
-negative_root (fin false (suc m) e) l = absurd (false≢true (sym (nothing_below (suc m * up e * 1) (down e)) ∙ l))
-
-zero_root : (x : Float) → lt Binary64.zero x ≡ false → lt x Binary64.zero ≡ false → x ≡ sqrt x
-unfolding lt of_bits sqrt
-zero_root nan l g = refl
-zero_root (inf true) l g = absurd (false≢true (sym g))
-zero_root (inf false) l g = refl
-zero_root (fin s zero e) l g = refl
-zero_root (fin true (suc m) e) l g = absurd (false≢true (sym g ∙ some_sum m (up e) (down e) (up_pos e)))
-zero_root (fin false (suc m) e) l g = absurd (false≢true (sym l ∙ some_above m (up e) (down e) (up_pos e)))
-
--- ---- the goals
-
-held : (x : Float) → fits binary64 x ≡ true → T (fits binary64 x)
-held x p = subst T (sym p) tt
-
--- what the pattern's root is, read back
-module _ (x : Float) (f : T (fits binary64 x)) (above : lt Binary64.zero x ≡ true) (plain : to_bits binary64 x < 0x7ff0_0000_0000_0000) where
-  rounded : CorrectlyRounded x (sqrt x)
-  rounded = correct x f above plain
-
-  bits : (r : ℕ) → r ≡ to_bits binary64 (sqrt (of_bits binary64 (to_bits binary64 x))) → r ≡ to_bits binary64 (sqrt x)
-  bits r e = e ∙ ap (λ (y : Float). to_bits binary64 (sqrt y)) (of_bits-to_bits binary64 x f)
-
-  no_nan : (r : ℕ) → r ≡ to_bits binary64 (sqrt (of_bits binary64 (to_bits binary64 x))) → T (not (nan_bits binary64 r))
-  no_nan r e = rw (bits r e) (no_nan_bits x rounded)
-
-  root : (r : ℕ) → r ≡ to_bits binary64 (sqrt (of_bits binary64 (to_bits binary64 x))) → of_bits binary64 r ≡ sqrt x
-  root r e = ap (of_bits binary64) (bits r e) ∙ of_bits-to_bits binary64 (sqrt x) rounded.held
-
-pub root_of_pattern-requires : goal.root_of_pattern-requires
-root_of_pattern-requires c = (some_bits c.args.x (held _ c.well_formed.0.1) c.if-x.true, c.if-b-lt-INFINITY.true)
-
-pub float_from_bits-result : goal.float_from_bits-result
-float_from_bits-result c = no_nan c.args.x (held _ c.well_formed.0.1) c.if-x.true c.if-b-lt-INFINITY.true _ c.root_of_pattern.ensures
 
 -- what is the definition's root is IEEE 754's, where x is finite and above zero
 nearest : (x r : Float) → fits binary64 x ≡ true → r ≡ sqrt x → T (is_finite x) → T (lt Binary64.zero x) → CorrectlyRounded x r
 nearest x r f e finite above = subst (CorrectlyRounded x) (sym e) (sqrt_correct x (held x f) finite above)
 
-pub returns-then-b-lt-INFINITY : goal.returns-then-b-lt-INFINITY
-returns-then-b-lt-INFINITY c =
-    let e = root c.args.x (held _ c.well_formed.0.1) c.if-x.true c.if-b-lt-INFINITY.true _ c.root_of_pattern.ensures in
-    record { result = e; nearest = nearest _ _ c.well_formed.0.1 e }
+-- the guess is the nearest root
+module _ (c : goal.Then-is_nearest) where
+  abbrev b : ℕ
+  b = to_bits binary64 c.args.x
 
-pub returns-then-x : goal.returns-then-x
-returns-then-x c =
-    let e = infinite c.args.x (held _ c.well_formed.0.1) c.if-b-lt-INFINITY.false c.if-x.true in
-    record { result = e; nearest = nearest _ _ c.well_formed.0.1 e }
+  abbrev half : ℕ
+  half = (b / 2 ^ 52 + 1021) / 2
 
-pub returns-then-x-2 : goal.returns-then-x-2
-returns-then-x-2 c =
-    let e = nan_of_pattern ∙ negative_root c.args.x c.if-x-2.true in
-    record { result = e; nearest = nearest _ _ c.well_formed.0.1 e }
+  above : lt Binary64.zero c.args.x ≡ true
+  above = above_least c.args.x c.if-x.true
 
-pub returns-else-x-2 : goal.returns-else-x-2
-returns-else-x-2 c =
-    let e = zero_root c.args.x c.if-x.false c.if-x-2.false in
-    record { result = e; nearest = nearest _ _ c.well_formed.0.1 e }
+  pattern : half * 2 ^ 52 + c.guess-root.result ≡ to_bits binary64 (sqrt (of_bits binary64 b))
+  pattern =
+      let s = c.radicand.ensures in
+      sym (root_pattern _ c.radicand.result half c.guess-root.result s.same s.low s.high (c.if-is_nearest.ensures tt) (halved b c.if-b-lt-INFINITY.true))
+      ∙ normal b (low_of_least c.args.x (held _ c.well_formed.0.1) c.if-x.true) c.if-b-lt-INFINITY.true
+    where
+      halved : (b : ℕ) → b < 0x7ff0_0000_0000_0000 → (b / 2 ^ 52 + 1021) / 2 < 2000
+      halved b h = omega arith
+
+  value : of_bits binary64 (half * 2 ^ 52 + c.guess-root.result) ≡ sqrt c.args.x
+  value = root c.args.x (held _ c.well_formed.0.1) above c.if-b-lt-INFINITY.true _ pattern
+
+pub float_from_bits-result : goal.float_from_bits-result
+float_from_bits-result c = no_nan c.args.x (held _ c.well_formed.0.1) (above c) c.if-b-lt-INFINITY.true _ (pattern c)
+
+pub returns-then-is_nearest : goal.returns-then-is_nearest
+returns-then-is_nearest c = record { result = value c; nearest = nearest _ _ c.well_formed.0.1 (value c) }
+
+pub returns : goal.returns
+returns c = record { result = c.sqrt_by_search.ensures; nearest = nearest _ _ c.well_formed.0.1 c.sqrt_by_search.ensures }
