@@ -40,6 +40,7 @@ struct Factor {
 // of d:
 // packed lower triangle, 00, 10, 11, 20, 21, 22. None where a pivot is not good.
 #[tactic(auto, unfolding(crate::specs::Cholesky::invert, crate::specs::Cholesky::inverse_by))]
+#[inline(always)]
 pub(crate) fn invert(m: [f64; 9], d: [f64; 3]) -> Option<[f64; 6]>
     ensures { result ≡ Cholesky.invert m d }
 {

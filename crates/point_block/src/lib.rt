@@ -1,10 +1,12 @@
 // SPDX-FileCopyrightText: 2026 Pierre Moulon and OpenMVG Rust contributors
 // SPDX-License-Identifier: MIT OR Apache-2.0
 
-// Scaled Cholesky factorization for symmetric 3 by 3 point blocks: kernel/point_block.rs. A
-// matrix is
-// nine numbers, row by row; `cholesky` has the arithmetic of the factor, `point_damping` the
-// damping.
+//! Scaled Cholesky factorization for symmetric 3 by 3 point blocks: kernel/point_block.rs. A matrix
+//! is nine numbers, row by row; `cholesky` has the arithmetic of the factor, `point_damping` the
+//! damping.
+//!
+//! A factor is inlined where a block is taken in and where a point's step is made, with all that
+//! it calls but the root, so that the matrix and its inverse are never copied.
 #![tactic(auto)]
 
 mod cholesky;
@@ -49,6 +51,7 @@ impl PointBlockFactor {
 
     /// The factor of the matrix at a damping, which is the Rust's `new`. Tests row 10.
     #[tactic(auto, unfolding(crate::specs::Lone::factor))]
+    #[inline(always)]
     pub fn factor(matrix: [f64; 9], damping: ValidDamping) -> Result<Self, Refusal>
         ensures result { result ≡ Lone.factor matrix damping }
         ensures answer { answer Factor.no_factor result
@@ -59,6 +62,7 @@ impl PointBlockFactor {
 
     /// The factor of a matrix that is damped already. Tests row 10.
     #[tactic(auto, unfolding(crate::specs::Factor::factor_damped))]
+    #[inline(always)]
     pub fn factor_damped(damped: [f64; 9]) -> Result<Self, Refusal>
         ensures result { result ≡ Factor.factor_damped damped }
         ensures answer { answer Factor.no_factor result
@@ -69,6 +73,7 @@ impl PointBlockFactor {
         Ok(Self { inverse })
     }
 
+    #[inline(always)]
     pub fn solve(self, x: [f64; 3]) -> [f64; 3]
         ensures { result ≡ Factor.solve self.inverse x }
     {
