@@ -48,7 +48,7 @@ pub fn sqrt(x: f64) -> f64
     sqrt_by_search(x)
 }
 
-// `sqrt` of any value. Kept out of `sqrt`, whose registers it would take: few values come here.
+// `sqrt` of any value, from anew. Few come here, and inlined it would take registers from `sqrt`.
 #[cold]
 #[inline(never)]
 fn sqrt_by_search(x: f64) -> f64
@@ -86,8 +86,7 @@ fn root_of_digits(m: u64, power: u64) -> u64
 }
 
 // What the root is taken of: m * 2 ^ (power + 52) without an even power of two, so that 105 or 106
-// digits are left. Inlined, as all is that `sqrt` does before it accepts a guess.
-#[inline(always)]
+// digits are left.
 fn radicand(m: u64, power: u64) -> u128
     requires { (2 ^ 52 ≤ m) × (m < 2 ^ 53) }
     ensures low { 2 ^ 104 ≤ result }
@@ -99,8 +98,7 @@ fn radicand(m: u64, power: u64) -> u128
 }
 
 // Both comparisons of `NearestRoot` in one: where root * root is not below n + root, the difference
-// wraps to more than any 2 * root. Inlined for `sqrt`.
-#[inline(always)]
+// wraps to more than any 2 * root.
 fn is_nearest(n: u128, root: u64) -> bool
     requires { (0 < n) × (n < 2 ^ 106) }
     ensures { T result → NearestRoot n root }
@@ -126,7 +124,8 @@ fn search(n: u128, start: u64) -> u64
 
 // The polynomial of the row that the last digit of the exponent and the 7 digits behind it choose,
 // at the fraction u that the digits behind those are. It promises nothing: its arithmetic wraps.
-// Its terms are paired so that few products wait for one another. Inlined for `sqrt`.
+// Its terms are paired so that few products wait for one another. Inlined into `sqrt`, though the
+// search uses it too.
 #[inline(always)]
 fn guess(pattern: u64) -> u64 {
     let row = &ROWS[(pattern >> 45) as usize % 256];
@@ -140,8 +139,7 @@ fn guess(pattern: u64) -> u64 {
         >> 10
 }
 
-// x * y / 2 ^ 64: a product of x and the fraction y / 2 ^ 64. One instruction, inlined.
-#[inline(always)]
+// x * y / 2 ^ 64: a product of x and the fraction y / 2 ^ 64
 fn high(x: u64, y: u64) -> u64 {
     (x as u128 * y as u128 >> 64) as u64
 }
