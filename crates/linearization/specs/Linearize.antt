@@ -78,7 +78,10 @@ linearize_point rig correspondence = result_and (check_views rig correspondence)
 
 -- the formulas' block, and whether it is refused
 abbrev pub tested_block : Rig → Correspondence → TestedBlock
-tested_block rig correspondence = record { block = block_of rig correspondence; accepted = is_ok (check_views rig correspondence) }
+tested_block rig correspondence = record {
+  block = block_of rig correspondence;
+  accepted = is_ok (check_views rig correspondence);
+}
 
 -- the same terms of a block that is made
 unfoldable pub point_terms : LocalLinearization → PointTerms

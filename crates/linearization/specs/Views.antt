@@ -86,4 +86,7 @@ check_views rig correspondence =
 
 -- the formulas' views, and whether they are refused
 abbrev pub tested_views : Rig → Correspondence → TestedViews
-tested_views rig correspondence = record { views = views_of rig correspondence; accepted = is_ok (check_views rig correspondence) }
+tested_views rig correspondence = record {
+  views = views_of rig correspondence;
+  accepted = is_ok (check_views rig correspondence);
+}

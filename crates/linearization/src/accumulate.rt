@@ -2,8 +2,7 @@
 // SPDX-License-Identifier: MIT OR Apache-2.0
 
 // The sums of `LocalLinearization::accumulate`: each entry is the product of two columns of the
-// weighted
-// rows. A column has four numbers, two of view 1 and then two of view 2.
+// weighted rows. A column has four numbers, two of view 1 and then two of view 2.
 
 ghost use Rattle.std.specs.Prelude.{◌≡◌, ◌<◌, ◌/◌};
 ghost use Rattle.linearization.specs.Accumulate as Accumulate;

@@ -51,9 +51,8 @@ pub(crate) fn point_jacobian(j: [f64; 6], r: [f64; 9], baseline: f64) -> [f64; 6
     array::from_fn(|k| entry(j, r, k / 3, k % 3) * baseline)
 }
 
-// An entry of a product of matrices with an inner dimension of 3, the right one of N / 3
-// columns; the
-// sum begins at −0.
+// An entry of a product of matrices with an inner dimension of 3, the right one of N / 3 columns;
+// the sum begins at −0.
 #[tactic(auto, unfolding(crate::specs::Jacobians::entry))]
 #[inline(always)]
 fn entry<const N: usize>(left: [f64; 6], right: [f64; N], row: usize, column: usize) -> f64

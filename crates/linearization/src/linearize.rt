@@ -66,6 +66,7 @@ pub fn tested_block(rig: &Rig, correspondence: Correspondence) -> TestedBlock
 pub fn block_of(rig: &Rig, correspondence: Correspondence) -> LocalLinearization
     ensures { result ≡ Linearize.block_of rig.now correspondence }
 {
+    // the verdict is not read, so that its tests are left out
     tested_block(rig, correspondence).block
 }
 

@@ -24,6 +24,7 @@ pub struct PointTerms {
 pub fn terms_of(rig: &Rig, correspondence: Correspondence) -> PointTerms
     ensures { result ≡ Linearize.point_terms (Linearize.block_of rig.now correspondence) }
 {
+    // the verdict is not read, so that its tests are left out
     let views = views::tested_views(rig, correspondence).views;
     terms(views.first, views.second)
 }

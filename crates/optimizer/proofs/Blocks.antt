@@ -6,10 +6,11 @@ use mathlib.Core.Bool.{Bool, true, false, ◌&&◌}
 use mathlib.Core.List.{List, [], ◌∷◌}
 use Prim.Native.Nat.{ℕ, zero, suc, ◌+◌, ◌≤◌, ◌<◌}
 use native.Mathlib.Nat.{add-zero, add-suc, suc-add, zero-add}
+use native.Mathlib.Numerals.{add-one}
 use native.Mathlib.Omega.{arith}
 use borrow.Author.Tests.{lt-ltb}
-use lib.Dec.{T, leb, le→leb}
-use lib.Ieee.{is_nan}
+use lib.Dec.{T, leb, ltb, le→leb}
+use lib.Ieee.{Float, is_nan}
 use lib.Ieee.Bits.{is_true, is_false}
 use mathlib.Core.Logic.{◌⊎◌, inl, inr}
 use Rattle.std.specs.Prelude.{Result, Ok, is_ok}
@@ -21,7 +22,8 @@ use Rattle.point_block.specs.Damping.{good_damping}
 use Rattle.linearization.specs.Linearize.{block_or_zeros}
 use Rattle.linearization.specs.declared.linearize.LocalLinearization.{LocalLinearization}
 use Rattle.schur.specs.Model.{new_system, with_hessian, is_valid}
-use Rattle.schur.specs.System.{max_blocks, Free, add, handed_back}
+use Rattle.refusal.specs.First.{Checked}
+use Rattle.schur.specs.System.{max_blocks, check_room, take_in, add, handed_back}
 use Rattle.schur.specs.declared.reduced_system.ReducedSystem.{ReducedSystem}
 use Rattle.schur.proofs.Room.{blocks_taken, weak_taken_at_most}
 use Rattle.add_sequences.specs.Calls.{Inputs, made, Call, at_damping, next, after, factors, blocks_in, all}
@@ -44,8 +46,20 @@ unfolding system_to new_system
 weak_counted p zero = omega arith
 weak_counted p (suc i) = weak_taken_at_most (system_to p i) (block_at p i) p.damping (weak_counted p i)
 
-pub has_room : (p : Problem) (i : ℕ) → i < max_blocks → Free (system_to p i)
-has_room p i h = (rw (blocks_counted p i) h, weak_counted p i)
+-- so that rows 12 and 13 let one more block in
+module _ (p : Problem) (i : ℕ) (few : i < max_blocks) where
+  counts : (leb (system_to p i).weak_point_count (system_to p i).block_count ≡ true) × (ltb (system_to p i).block_count max_blocks ≡ true)
+  counts =
+      let s = system_to p i in
+      (is_true (leb s.weak_point_count s.block_count) (le→leb s.weak_point_count s.block_count (weak_counted p i)), lt-ltb s.block_count max_blocks (rw (blocks_counted p i) few))
+
+module _ (p : Problem) (i : ℕ) (few : i < max_blocks) (s : ReducedSystem) (e : s ≡ system_to p i) where
+  pub room_left : (r : Checked) → r ≡ check_room s → r ≡ Ok tt
+  room_left r k = k ∙ rw (e, (counts p i few).0, (counts p i few).1) refl
+
+  pub block_taken : (b : LocalLinearization) (d : Float) (t : ReducedSystem) → b ≡ block_at p i → d ≡ p.damping → t ≡ handed_back s (take_in s b d) → t ≡ system_to p (i + 1)
+  unfolding system_to
+  block_taken b d t f g k = k ∙ rw (room_left (check_room s) refl, add-one i, f, g, e) refl
 
 -- ---- one more point of which rows 4 and 9 are asked
 
@@ -60,6 +74,12 @@ accepted_next p i a b before e t j h = by (cases_lt j i)
     by (inr k) =
         let same : j ≡ i = omega arith in
         rw same (sym e ∙ both.1)
+
+pub accepted_still : (p : Problem) (i : ℕ) (a b : Bool) → (Accepted p i → a ≡ true) → b ≡ is_ok (check_views p.rig (correspondence_at p i)) → Accepted p (i + 1) → (a && b) ≡ true
+accepted_still p i a b before e h =
+    let first : a ≡ true = before (λ j k. h j (omega arith)) in
+    let last : b ≡ true = e ∙ h i (omega arith) in
+    rw (first, last) refl
 
 -- ---- the problem's blocks as calls of `add`, from an index on
 
@@ -87,9 +107,8 @@ module _ (p : Problem) (ok : check p ≡ Ok tt) where
   pub added : (i : ℕ) → i < count p → add (system_to p i) (block_at p i) p.damping ≡ Ok (system_to p (suc i))
   unfolding add system_to
   added i h =
-      let s = system_to p i in
-      let room = has_room p i (omega (arith, few)) in
-      rw (is_true (good_damping p.damping) good, is_true (leb s.weak_point_count s.block_count) (le→leb s.weak_point_count s.block_count room.1), lt-ltb s.block_count max_blocks room.0) refl
+      let k = counts p i (omega (arith, few)) in
+      rw (is_true (good_damping p.damping) good, k.0, k.1) refl
 
   called : (i : ℕ) → i < count p → next p.damping (system_to p i) (at_damping (inputs p i)) ≡ system_to p (suc i)
   called i h =

@@ -2,11 +2,14 @@
 // SPDX-License-Identifier: MIT OR Apache-2.0
 
 // The whole step: checks, reduced system, solve, point steps, predicted reduction.
+ghost use Rattle.std.specs.Prelude.{◌≡◌, true, Ok};
+ghost use Rattle.std.specs.Result.{result_and};
 ghost use Rattle.problem.specs.Problem as Problems;
+ghost use Rattle.problem.specs.Checks as Checks;
 ghost use Rattle.optimizer.specs.Step as Steps;
 
 use crate::{StepResult, assembly, point_steps, pose_step};
-use problem::checks::ReadableProblem;
+use problem::checks::{CheckedProblem, ReadableProblem};
 use problem::correspondences::Problem;
 use refusal::Refusal;
 
@@ -19,8 +22,9 @@ pub fn step(problem: &Problem, room: &mut [f64]) -> Result<StepResult, Refusal>
         return Err(Refusal::Lengths);
     }
     let readable = ReadableProblem::new(problem)?;
+    // Each point is tested as its block is made, so that rows 4 to 9 are asked after the sums.
     let blocks = assembly::block_sums(&readable);
-    let checked = assembly::checked(readable, blocks.accepted)?;
+    let checked = checked(readable, blocks.accepted)?;
     let system = blocks.system.damped(checked.damping());
     if !system.is_valid() {
         return Err(Refusal::NotFactored);
@@ -29,4 +33,15 @@ pub fn step(problem: &Problem, room: &mut [f64]) -> Result<StepResult, Refusal>
     let pose_step = pose_step::pose_step(x);
     let sums = point_steps::write_steps(&checked, pose_step, room);
     Ok(StepResult::of(&checked, system, pose_step, sums))
+}
+
+// Rows 4 to 9. The points are looked at again, in the order of the rows, only where one is refused.
+fn checked(problem: ReadableProblem<'_>, accepted: bool) -> Result<CheckedProblem<'_>, Refusal>
+    requires { accepted ≡ true → Checks.Accepted problem (Problems.count problem) }
+    ensures { result ≡ result_and (Checks.check problem.entry) (Ok problem.entry) }
+{
+    if accepted && problem.passes_rows_5_and_7() {
+        return Ok(CheckedProblem { readable: problem });
+    }
+    CheckedProblem::of(problem)
 }

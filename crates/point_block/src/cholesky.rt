@@ -2,8 +2,7 @@
 // SPDX-License-Identifier: MIT OR Apache-2.0
 
 // The scaled Cholesky factor of a symmetric 3 by 3 block: `factor_damped` of
-// kernel/point_block.rs. A
-// matrix is nine numbers, row by row.
+// kernel/point_block.rs. A matrix is nine numbers, row by row.
 
 ghost use Rattle.std.specs.Prelude.{◌≡◌};
 ghost use Rattle.point_block.specs.Cholesky as Cholesky;
@@ -36,9 +35,8 @@ struct Factor {
     lower: Lower,
 }
 
-// The inverse of a matrix by its Cholesky factor, which is worked out at the scale of the roots
-// of d:
-// packed lower triangle, 00, 10, 11, 20, 21, 22. None where a pivot is not good.
+// The inverse of a matrix by its Cholesky factor, which is worked out at the scale of the roots of
+// d: packed lower triangle, 00, 10, 11, 20, 21, 22. None where a pivot is not good.
 #[tactic(auto, unfolding(crate::specs::Cholesky::invert, crate::specs::Cholesky::inverse_by))]
 #[inline(always)]
 pub(crate) fn invert(m: [f64; 9], d: [f64; 3]) -> Option<[f64; 6]>
@@ -119,8 +117,7 @@ fn good_pivots(c: Factor) -> bool
 }
 
 // The block's inverse from its lower triangle and its scale: M is the triangle's inverse, the
-// scaled
-// inverse is Mᵀ M, and the scale is taken out on both sides.
+// scaled inverse is Mᵀ M, and the scale is taken out on both sides.
 #[tactic(auto, unfolding(crate::specs::Cholesky::inverse_of))]
 fn inverse_of(l: Lower, s: Scale) -> [f64; 6]
     ensures { result ≡ Cholesky.inverse_of l s }

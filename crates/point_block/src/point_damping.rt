@@ -1,9 +1,8 @@
 // SPDX-FileCopyrightText: 2026 Pierre Moulon and OpenMVG Rust contributors
 // SPDX-License-Identifier: MIT OR Apache-2.0
 
-// The damping of a symmetric 3 by 3 point block: kernel/point_block.rs. A matrix is nine
-// numbers, row by
-// row.
+// The damping of a symmetric 3 by 3 point block: kernel/point_block.rs. A matrix is nine numbers,
+// row by row.
 
 ghost use Rattle.std.specs.Prelude.{◌≡◌, T};
 ghost use Rattle.numerics.specs.Vectors.{zeros};

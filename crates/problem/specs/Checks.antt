@@ -79,7 +79,12 @@ Accepted p n = (i : ℕ) → i < n → is_ok (check_views p.rig (correspondence_
 
 -- rows 1 to 3, the room apart
 unfoldable pub check_readable : Problem → Checked
-check_readable p = first_of (unless (lengths_fit p) Lengths ∷ unless (leb (count p) max_points) TooManyPoints ∷ unless (good_damping p.damping) Damping ∷ [])
+check_readable p =
+    first_of (
+    unless (lengths_fit p) Lengths
+    ∷ unless (leb (count p) max_points) TooManyPoints
+    ∷ unless (good_damping p.damping) Damping
+    ∷ [])
 
 -- rows 1 to 9, the room apart
 unfoldable pub check : Problem → Checked

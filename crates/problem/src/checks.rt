@@ -24,8 +24,8 @@ const MINIMUM_POINTS: u32 = 5;
 // Row 2
 const MAXIMUM_POINTS: usize = 65535;
 
-/// A problem that rows 1 to 3 let through, row 1 without the room: its points can be read, and its
-/// damping is valid.
+/// A problem that rows 1 to 3 let through, row 1 without the room: its points can be read, and a
+/// system can take their blocks in at its damping.
 #[derive(Drop)]
 pub struct ReadableProblem<'a> {
     fitting: FittingProblem<'a>,
@@ -66,7 +66,8 @@ impl<'a> ReadableProblem<'a> {
     /// Tests rows 1 to 3, row 1 without the room.
     #[tactic(auto, unfolding(crate::specs::Checks::check_readable))]
     pub fn new(problem: &'a Problem<'a>) -> Result<ReadableProblem<'a>, Refusal>
-        ensures { result ≡ result_and (Checks.check_readable (Problems.of problem.now)) (Ok (Problems.of problem.now)) }
+        ensures { result ≡ result_and (Checks.check_readable (Problems.of problem.now))
+            (Ok (Problems.of problem.now)) }
     {
         let n = problem.count();
         let fit = belongs(problem.points.len(), 3, n)
@@ -100,7 +101,7 @@ impl<'a> ReadableProblem<'a> {
     /// Whether rows 5 and 7 let it through, which look at no point. Where rows 4 and 9 let each
     /// point through as well, so do rows 1 to 9.
     #[tactic(auto, using(crate::proofs::Passed::accepted_passes))]
-    pub fn has_baseline_and_points(&self) -> bool
+    pub fn passes_rows_5_and_7(&self) -> bool
         ensures rows { result ≡ (Checks.good_baseline self.now.rig.pose.baseline
             && leb Checks.min_points (Problems.count self.now)) }
         ensures passes { result ≡ true → Checks.Accepted self.now (Problems.count self.now)
@@ -115,7 +116,8 @@ impl<'a> CheckedProblem<'a> {
     /// Tests rows 1 to 9, row 1 without the room.
     #[tactic(auto, using(crate::proofs::Passed::refused_first))]
     pub fn new(problem: &'a Problem<'a>) -> Result<CheckedProblem<'a>, Refusal>
-        ensures { result ≡ result_and (Checks.check (Problems.of problem.now)) (Ok (Problems.of problem.now)) }
+        ensures { result ≡ result_and (Checks.check (Problems.of problem.now))
+            (Ok (Problems.of problem.now)) }
     {
         Self::of(ReadableProblem::new(problem)?)
     }

@@ -2,8 +2,7 @@
 // SPDX-License-Identifier: MIT OR Apache-2.0
 
 // What a whole step is lent, and one correspondence of it: its point, and what each view saw of
-// it. From
-// kernel/two_view/optimizer.rs, residual.rs.
+// it. From kernel/two_view/optimizer.rs, residual.rs.
 
 ghost use Rattle.std.specs.Prelude.{◌≡◌, ◌<◌};
 ghost use Rattle.problem.specs.Problem as Problems;
@@ -15,8 +14,7 @@ use projection::Projected;
 use refusal::{Refusal, View};
 
 /// What a whole step is lent and handed: three numbers a point, two a point in each view, one
-/// inverse
-/// deviation a point, the rig and the damping
+/// inverse deviation a point, the rig and the damping
 #[derive(Clone, Copy)]
 pub struct Problem<'a> {
     pub points: &'a [f64],
@@ -28,8 +26,7 @@ pub struct Problem<'a> {
 }
 
 /// A problem whose lengths belong to one count of at most 65,535 points: rows 1 and 2 let it
-/// through,
-/// row 1 without the room.
+/// through, row 1 without the room.
 #[derive(Clone, Copy)]
 pub struct FittingProblem<'a> {
     pub problem: &'a Problem<'a>,
@@ -72,9 +69,8 @@ impl<'a> ProblemPoint<'a> {
         [points[at], points[at + 1], points[at + 2]]
     }
 
-    /// The part of view 1 or 2 that holds the point's two numbers: all that reads an
-    /// observation reads it
-    /// here.
+    /// The part of view 1 or 2 that holds the point's two numbers: all that reads an observation
+    /// reads it here.
     pub fn observation(self, view: View) -> &'a [f64]
         ensures { result.now ≡ Problems.observation self.entry.fitting.problem.now.view1.now
             self.entry.fitting.problem.now.view2.now view self.entry.index }

@@ -9,7 +9,8 @@
 //! and `camera_point` move a point into the second camera's frame.
 //!
 //! All of it is inlined into the loops over points, so that a camera, a point and what becomes of
-//! it stay in registers: of a chain of calls that hand arrays on, every link has to be.
+//! it stay in registers: of a chain of calls that hand arrays on, every link has to be. Where
+//! `pixel_projection` itself is called, its `Result` is opened at once and never stored.
 #![tactic(auto)]
 
 mod camera_frame;
@@ -92,18 +93,19 @@ pub fn tested_projection(
 
 // Whether the coordinates are finite and the depth is above 64ε of the largest absolute value of
 // them. Always inlined, so that the coordinates stay in registers.
-#[inline(always)]
 #[tactic(auto, unfolding(crate::specs::Projection::in_front))]
+#[inline(always)]
 fn in_front(point: [f64; 3]) -> bool
     ensures { result ≡ Projection.in_front point }
 {
-    is_in_front(point[0], point[1], point[2])
+    in_front_of(point[0], point[1], point[2])
 }
 
-// By comparisons alone, with no absolute value: 64ε of an absolute value is below z where 64ε of
-// the value is between −z and z. That of an infinity or of a NaN never is.
+// The same of the coordinates one by one, by comparisons alone: 64ε of an absolute value is below z
+// where 64ε of the value is between −z and z. That of an infinity or of a NaN never is. Where 64ε
+// of z is below z, z is above 0, so that its own negative need not be asked.
 #[inline(always)]
-fn is_in_front(x: f64, y: f64, z: f64) -> bool
+fn in_front_of(x: f64, y: f64, z: f64) -> bool
     ensures { result ≡ Projection.in_front (x ∷ y ∷ z ∷ []) }
 {
     let right = numerics::EPSILON64 * x;
@@ -136,9 +138,8 @@ fn linearized(camera: &PinholeCamera, observation: [f64; 2], point: [f64; 3]) ->
     }
 }
 
-// One product from +0, with a multiplication for each number and one comparison in all: 0 times a
-// finite number is a zero, and 0 times any other is a NaN, which stays. Always inlined, so that
-// the numbers stay in registers.
+// By one product, as `numerics::vectors::all_finite`: written out, so that the numbers stay in
+// registers.
 #[inline(always)]
 fn all_finite(projected: Projected) -> bool
     ensures { result ≡ Projection.all_finite projected }

@@ -48,7 +48,7 @@ pub fn sqrt(x: f64) -> f64
     sqrt_by_search(x)
 }
 
-// `sqrt` of any value, from anew. Few come here, and inlined it would take registers from `sqrt`.
+// `sqrt` of any value, anew. Few come here, and inlined it would take registers from `sqrt`.
 #[cold]
 #[inline(never)]
 fn sqrt_by_search(x: f64) -> f64
@@ -101,7 +101,8 @@ fn radicand(m: u64, power: u64) -> u128
 // wraps to more than any 2 * root.
 fn is_nearest(n: u128, root: u64) -> bool
     requires { (0 < n) × (n < 2 ^ 106) }
-    ensures { T result → NearestRoot n root }
+    ensures nearest { T result → NearestRoot n root }
+    ensures each { NearestRoot n root → T result }
 {
     let root = root as u128;
     (n + root - 1).wrapping_sub(root * root) < 2 * root

@@ -1,6 +1,6 @@
 //! Where a root begins: 256 polynomials, printed by `tools/root-table`.
 //!
-//! A row serves the normal values whose exponents have the same last digit (0 in rows 0 to 127, 1
+//! A row serves the values whose exponents have the same last digit (0 in rows 0 to 127, 1
 //! in rows 128 to 255) and that have the same 7 digits behind the leading one. It stands for
 //!
 //!     c0 + c1 * u - c2 * u ^ 2 + c3 * u ^ 3 - c4 * u ^ 4 + c5 * u ^ 5

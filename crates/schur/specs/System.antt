@@ -2,7 +2,9 @@
 use Rattle.std.specs.Prelude.{ℕ, suc, ◌<◌, ◌≤◌, ◌&&◌, cond, leb, ltb, Float, Result, Ok, Err}
 use Rattle.numerics.specs.Extrema.{max}
 use Rattle.numerics.specs.Binary64.{◌⊕◌}
+use Rattle.std.specs.Result.{result_and}
 use Rattle.refusal.specs.Answer.{answer}
+use Rattle.refusal.specs.First.{Checked}
 use Rattle.refusal.specs.declared.Refusal.{Refusal}
 use Rattle.refusal.specs.declared.Refusal.TheVariants.{Damping, WeakCount, Full}
 use Rattle.point_block.specs.Damping.{good_damping}
@@ -48,9 +50,13 @@ taken_by s b e = taken_with s b e (raised e.weak s.weak_point_count)
 unfoldable pub taken : ReducedSystem → LocalLinearization → Float → ReducedSystem
 taken s b damping = taken_by s b (eliminate s b damping)
 
--- a system that takes one more block in, or the refusal of rows 12 and 13
-abbrev pub open_system : ReducedSystem → Result ReducedSystem Refusal
-open_system s = cond (leb s.weak_point_count s.block_count) (cond (ltb s.block_count max_blocks) (Ok s) (Err Full)) (Err WeakCount)
+-- rows 12 and 13
+abbrev pub check_room : ReducedSystem → Checked
+check_room s = cond (leb s.weak_point_count s.block_count) (cond (ltb s.block_count max_blocks) (Ok tt) (Err Full)) (Err WeakCount)
+
+-- the same at a damping that row 3 lets through: rows 12 and 13, then the block taken in
+abbrev pub take_in : ReducedSystem → LocalLinearization → Float → Result ReducedSystem Refusal
+take_in s b damping = result_and (check_room s) (Ok (taken s b damping))
 
 -- `add` tests rows 3, 12, 13
 unfoldable pub add : ReducedSystem → LocalLinearization → Float → Result ReducedSystem Refusal

@@ -1,9 +1,8 @@
 // SPDX-FileCopyrightText: 2026 Pierre Moulon and OpenMVG Rust contributors
 // SPDX-License-Identifier: MIT OR Apache-2.0
 
-// `scaled_gradient_inf_norm` of schur.rs: the largest entry of a gradient, each scaled by the
-// root of its
-// curvature.
+// `scaled_gradient_inf_norm` of schur.rs: the largest entry of a gradient, each scaled by the root
+// of its curvature.
 
 ghost use Rattle.std.specs.Prelude.{◌≡◌, ◌<◌};
 ghost use Rattle.schur.specs.GradientNorm as GradientNorm;

@@ -9,11 +9,11 @@
 //! block, its factor and the system are not copied from call to call.
 #![tactic(auto)]
 
-pub mod elimination;
+mod elimination;
 mod gradient_norm;
 pub mod point_step;
 mod pose_model;
 mod reduced_add;
 pub mod reduced_system;
 
-pub use reduced_add::{OpenSystem, add, add_to};
+pub use reduced_add::{add, add_to, take_in};

@@ -15,34 +15,14 @@ use linearization::LocalLinearization;
 use numerics::extrema;
 use point_block::point_damping::ValidDamping;
 use refusal::Refusal;
-use std::marker::Model;
 
 // The most blocks that a system takes in
 const MAX_BLOCKS: u16 = 65535;
 
-/// A system that takes one more block in: rows 12 and 13 let it through.
-#[derive(Clone, Copy)]
-pub struct OpenSystem {
-    pub system: ReducedSystem,
-}
-
-impl Model for OpenSystem {
-    ghost use Rattle.schur.specs.declared.reduced_system.ReducedSystem.{ReducedSystem};
-    ghost use Rattle.schur.specs.System.{Free};
-
-    ghost Value = { ReducedSystem };
-
-    ghost view = { λ s. s.system };
-
-    ghost invariant = { λ s. Free s.system };
-
-    ghost inverse = { λ s. record { system = s } };
-}
-
 /// The system with a block taken in, by value. Tests rows 3, 12, 13.
 #[tactic(auto, unfolding(crate::specs::System::add))]
 pub fn add(
-    system: ReducedSystem,
+    mut system: ReducedSystem,
     local: LocalLinearization,
     damping: f64,
 ) -> Result<ReducedSystem, Refusal>
@@ -50,13 +30,12 @@ pub fn add(
     ensures answer { answer system result ≡ answer system (System.add system local damping) }
 {
     let damping = ValidDamping::new(damping)?;
-    let system = OpenSystem::new(system)?;
-    Ok(system.with_block(local, damping))
+    take_in(&mut system, local, damping)?;
+    Ok(system)
 }
 
 /// The same on a system that its owner lends, as the Rust's `add(&mut self)` does; refused, it
-/// leaves
-/// the system unchanged.
+/// leaves the system unchanged.
 pub fn add_to(
     system: &mut ReducedSystem,
     local: LocalLinearization,
@@ -69,38 +48,43 @@ pub fn add_to(
     Ok(())
 }
 
-impl OpenSystem {
-    // Rows 12 and 13
-    fn new(system: ReducedSystem) -> Result<Self, Refusal>
-        ensures { result ≡ System.open_system system }
-    {
-        if system.weak_point_count > system.block_count {
-            return Err(Refusal::WeakCount);
-        }
-        if system.block_count >= MAX_BLOCKS {
-            return Err(Refusal::Full);
-        }
-        Ok(Self { system })
-    }
+/// The same in place, at a damping that row 3 lets through. Tests rows 12, 13; refused, it leaves
+/// the system unchanged. Inlined into the loop that makes the blocks, with all that it calls, so
+/// that neither block nor system is copied.
+#[inline(always)]
+pub fn take_in(
+    system: &mut ReducedSystem,
+    local: LocalLinearization,
+    damping: ValidDamping,
+) -> Result<(), Refusal>
+    ensures refusal { result ≡ System.check_room system.old }
+    ensures system { system.new
+        ≡ System.handed_back system.old (System.take_in system.old local damping) }
+{
+    check_room(system)?;
+    add_block(system, local, damping);
+    Ok(())
+}
 
-    /// The system with the block taken in. Inlined into the loop that makes the blocks, with all
-    /// that it calls: so the loop copies neither the block nor the system, and changes the system
-    /// in place.
-    #[inline(always)]
-    pub fn with_block(self, local: LocalLinearization, damping: ValidDamping) -> ReducedSystem
-        ensures { result ≡ System.taken self local damping }
-    {
-        let mut system = self.system;
-        take_in(&mut system, local, damping);
-        system
+// Rows 12 and 13
+#[inline(always)]
+fn check_room(system: &ReducedSystem) -> Result<(), Refusal>
+    ensures { result ≡ System.check_room system.now }
+{
+    if system.weak_point_count > system.block_count {
+        return Err(Refusal::WeakCount);
     }
+    if system.block_count >= MAX_BLOCKS {
+        return Err(Refusal::Full);
+    }
+    Ok(())
 }
 
 // The equations change once the block's point is eliminated, and the sums take in what every block
 // brings.
 #[tactic(auto, unfolding(crate::specs::System::taken, crate::specs::System::taken_with))]
 #[inline(always)]
-fn take_in(system: &mut ReducedSystem, local: LocalLinearization, damping: ValidDamping)
+fn add_block(system: &mut ReducedSystem, local: LocalLinearization, damping: ValidDamping)
     requires { System.Free system.old }
     ensures { system.new ≡ System.taken system.old local damping }
 {

@@ -32,7 +32,7 @@ module _ (c : goal.Then-is_nearest) where
   pattern : half * 2 ^ 52 + c.guess-root.result ≡ to_bits binary64 (sqrt (of_bits binary64 b))
   pattern =
       let s = c.radicand.ensures in
-      sym (root_pattern _ c.radicand.result half c.guess-root.result s.same s.low s.high (c.if-is_nearest.ensures tt) (halved b c.if-b-lt-INFINITY.true))
+      sym (root_pattern _ c.radicand.result half c.guess-root.result s.same s.low s.high (c.if-is_nearest.ensures.nearest tt) (halved b c.if-b-lt-INFINITY.true))
       ∙ normal b (low_of_least c.args.x (held _ c.well_formed.0.1) c.if-x.true) c.if-b-lt-INFINITY.true
     where
       halved : (b : ℕ) → b < 0x7ff0_0000_0000_0000 → (b / 2 ^ 52 + 1021) / 2 < 2000

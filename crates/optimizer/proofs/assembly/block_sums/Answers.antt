@@ -1,18 +1,19 @@
 use Rattle.std.proofs.Common.{rules, arith}
-use Rattle.optimizer.specs.Assembly.{system_to}
-use Rattle.optimizer.proofs.Blocks.{has_room, accepted_next}
+use Rattle.optimizer.proofs.Blocks.{room_left, block_taken, accepted_next, accepted_still}
 use Rattle.optimizer.proofs.assembly.block_sums.Goals as goal
 
-pub invariant_of-with_block : goal.invariant_of-with_block
-invariant_of-with_block c =
+pub unreachable-requires : goal.unreachable-requires
+unreachable-requires c =
     let few = c.fitting-fitting.result.fits.3 in
-    rw c.loop-index.invariant.system (has_room c.args.problem.now c.loop-index.index (omega arith))
+    c.in_default.not-Ok _ (room_left c.args.problem.now c.loop-index.index (omega arith) _ c.loop-index.invariant.system _ c.take_in.ensures.refusal)
 
 pub loop-index-preserved : goal.loop-index-preserved
-unfolding system_to
 loop-index-preserved c =
+    let few = c.fitting-fitting.result.fits.3 in
+    let p = c.args.problem.now in
     record {
       within = c.loop-index.invariant.within;
-      system = search rules;
-      accepted = accepted_next c.args.problem.now c.loop-index.index _ _ c.loop-index.invariant.accepted (search rules);
+      system = block_taken p c.loop-index.index (omega arith) _ c.loop-index.invariant.system _ _ _ (search rules) (search rules) c.take_in.ensures.system;
+      accepted = accepted_next p c.loop-index.index _ _ c.loop-index.invariant.accepted (search rules);
+      each = accepted_still p c.loop-index.index _ _ c.loop-index.invariant.each (search rules);
     }

@@ -10,4 +10,5 @@ invariant-loop-index l =
       within : l.index-end ≡ count l.problem;
       system : l.system ≡ system_to l.problem l.index;
       accepted : l.accepted ≡ true → Accepted l.problem l.index;
+      each : Accepted l.problem l.index → l.accepted ≡ true;
     }
