@@ -15,14 +15,15 @@ use projection::{PinholeCamera, Projected};
 use refusal::{Refusal, View};
 use std::array;
 
-/// How the second camera sits: the rotation by rows, the translation, two vectors that span the
-/// translation's tangent plane, and the baseline
+/// How the second camera sits: the rotation by rows, the translation, the baseline, and two vectors
+/// that span the translation's tangent plane
 #[derive(Clone, Copy)]
 pub struct Pose {
     pub rotation: [f64; 9],
     pub translation: [f64; 3],
-    pub basis: [f64; 6],
+    // here, between arrays: a longer run of them would be copied by a call of the C library
     pub baseline: f64,
+    pub basis: [f64; 6],
 }
 
 /// The two cameras, and how the second one sits

@@ -7,7 +7,7 @@ use native.Mathlib.Nat.{add-zero, zero-add, add-suc, suc-add}
 use native.Mathlib.Numerals.{add-one}
 use native.Mathlib.Omega.{arith}
 use lib.ListN.{length, drop, set}
-use lib.Seq.{drop-cons, set_at, append_snoc, drop-length}
+use lib.Seq.{drop-cons, set_at, get_or_at, append_snoc, drop-length}
 use lib.Ieee.{Float, nan}
 use Rattle.std.specs.List.{range_with_len}
 use Rattle.std.proofs.lemmas.List.FromFn.{length-map-range_with_len, map-range_with_len_more}
@@ -37,7 +37,14 @@ fill_next l h f k v e g i =
     ∙ set_at (tabulate k f) (l ! k) (drop (suc k) l) (f k) k (length_tabulate k f)
     ∙ sym (rw (tabulate_maps (k + 1) f, map-range_with_len_more f 0 k k (zero-add k), ← tabulate_maps k f, add-one k) (append_snoc (tabulate k f) (f k) (drop (suc k) l)))
 
-fill_all : (l h : List Float) (f : ℕ → Float) (k n : ℕ) → h ≡ filled l f k → k ≡ n → length l ≡ n → h ≡ tabulate n f
+-- the entry that is filled next is still l's
+pub fill_read : (l h : List Float) (f : ℕ → Float) (k : ℕ) → h ≡ filled l f k → k < length l → h ! k ≡ l ! k
+fill_read l h f k e i =
+    ap (λ (t : List Float). t ! k) e
+    ∙ ap (λ (t : List Float). (tabulate k f ++ t) ! k) (drop-cons l k nan i)
+    ∙ get_or_at (tabulate k f) (l ! k) (drop (suc k) l) nan k (length_tabulate k f)
+
+pub fill_all : (l h : List Float) (f : ℕ → Float) (k n : ℕ) → h ≡ filled l f k → k ≡ n → length l ≡ n → h ≡ tabulate n f
 fill_all l h f k n e g i =
     e
     ∙ ap (λ (m : ℕ). filled l f m) g

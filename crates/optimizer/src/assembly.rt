@@ -5,6 +5,7 @@
 // kernel/two_view/optimizer.rs.
 
 ghost use Rattle.std.specs.Prelude.{◌≡◌, true};
+ghost use Rattle.schur.specs.Model as Model;
 ghost use Rattle.problem.specs.Problem as Problems;
 ghost use Rattle.problem.specs.Checks as Checks;
 ghost use Rattle.optimizer.specs.Assembly as Assembly;
@@ -14,35 +15,30 @@ use problem::checks::{CheckedProblem, ReadableProblem};
 use problem::correspondences::ProblemPoint;
 use schur::reduced_system::ReducedSystem;
 
-/// The blocks of all points in one system, before the pose damping, and whether rows 4 and 9 let
-/// each point through
-#[derive(Clone, Copy)]
-pub(crate) struct BlockSums {
-    pub system: ReducedSystem,
-    pub accepted: bool,
-}
-
 /// A problem's system: the blocks of all points in their order, then the pose damping
 #[tactic(auto, unfolding(crate::specs::Assembly::reduced_system))]
 pub fn reduced_system(problem: &CheckedProblem) -> ReducedSystem
     ensures { result ≡ Assembly.reduced_system problem.now }
 {
-    let sums = block_sums(&problem.readable);
-    sums.system.damped(problem.damping())
+    let mut system = ReducedSystem::new();
+    let _accepted = add_blocks(&problem.readable, &mut system);
+    system.damp(problem.damping());
+    system
 }
 
-// The sums over a problem whose points are not tested yet: each is tested as its block is made.
+// Takes the blocks of all points into a new system, before the pose damping, and gives whether rows
+// 4 and 9 let each point through: a point is tested as its block is made. The system is lent, so
+// that it is never copied: a copy of more than 128 bytes is a call of the C library, after whose
+// wide stores some processors run slower for the next 0.7 ms.
 #[tactic(auto, unfolding(crate::specs::Assembly::system_to))]
-pub(crate) fn block_sums(problem: &ReadableProblem) -> BlockSums
-    ensures system { result.system ≡ Assembly.system_to problem.now (Problems.count problem.now) }
-    ensures accepted { result.accepted ≡ true
-        → Checks.Accepted problem.now (Problems.count problem.now) }
-    ensures each { Checks.Accepted problem.now (Problems.count problem.now)
-        → result.accepted ≡ true }
+pub(crate) fn add_blocks(problem: &ReadableProblem, system: &mut ReducedSystem) -> bool
+    requires { system.old ≡ Model.new_system }
+    ensures system { system.new ≡ Assembly.system_to problem.now (Problems.count problem.now) }
+    ensures accepted { result ≡ true → Checks.Accepted problem.now (Problems.count problem.now) }
+    ensures each { Checks.Accepted problem.now (Problems.count problem.now) → result ≡ true }
 {
     let fitting = problem.fitting();
     let damping = problem.damping();
-    let mut system = ReducedSystem::new();
     let mut accepted = true;
     for index in 0..fitting.count() {
         let point = ProblemPoint { fitting, index };
@@ -50,10 +46,10 @@ pub(crate) fn block_sums(problem: &ReadableProblem) -> BlockSums
             block,
             accepted: passes,
         } = linearization::tested_block(&fitting.problem.rig, point.correspondence());
-        let Ok(()) = schur::take_in(&mut system, block, damping) else {
+        let Ok(()) = schur::take_in(system, block, damping) else {
             unreachable!()
         };
         accepted &= passes;
     }
-    BlockSums { system, accepted }
+    accepted
 }

@@ -30,11 +30,11 @@ impl StepResult {
     #[tactic(auto, unfolding(crate::specs::Results::finished))]
     pub(crate) fn of(
         problem: &CheckedProblem,
-        system: ReducedSystem,
+        system: &ReducedSystem,
         pose_step: [f64; 5],
         sums: Sums,
     ) -> Self
-        ensures { result ≡ Results.finished system pose_step problem.now.damping
+        ensures { result ≡ Results.finished system.now pose_step problem.now.damping
             (Problems.count problem.now) sums.squared sums.damping_norm }
     {
         let n = problem.fitting().count();

@@ -12,6 +12,7 @@ use crate::{StepResult, assembly, point_steps, pose_step};
 use problem::checks::{CheckedProblem, ReadableProblem};
 use problem::correspondences::Problem;
 use refusal::Refusal;
+use schur::reduced_system::ReducedSystem;
 
 /// One step. Tests rows 1 to 11; refused, it leaves the room as it was.
 pub fn step(problem: &Problem, room: &mut [f64]) -> Result<StepResult, Refusal>
@@ -23,16 +24,17 @@ pub fn step(problem: &Problem, room: &mut [f64]) -> Result<StepResult, Refusal>
     }
     let readable = ReadableProblem::new(problem)?;
     // Each point is tested as its block is made, so that rows 4 to 9 are asked after the sums.
-    let blocks = assembly::block_sums(&readable);
-    let checked = checked(readable, blocks.accepted)?;
-    let system = blocks.system.damped(checked.damping());
+    let mut system = ReducedSystem::new();
+    let accepted = assembly::add_blocks(&readable, &mut system);
+    let checked = checked(readable, accepted)?;
+    system.damp(checked.damping());
     if !system.is_valid() {
         return Err(Refusal::NotFactored);
     }
     let x = solver::solve_positive_definite(system.hessian, system.gradient)?;
     let pose_step = pose_step::pose_step(x);
     let sums = point_steps::write_steps(&checked, pose_step, room);
-    Ok(StepResult::of(&checked, system, pose_step, sums))
+    Ok(StepResult::of(&checked, &system, pose_step, sums))
 }
 
 // Rows 4 to 9. The points are looked at again, in the order of the rows, only where one is refused.

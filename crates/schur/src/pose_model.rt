@@ -10,7 +10,7 @@ mod damping;
 ghost use Rattle.std.specs.Prelude.{◌≡◌, ◌<◌};
 ghost use Rattle.schur.specs.PoseModel as PoseModel;
 
-pub(crate) use damping::{damped_hessian, pose_damping_norm};
+pub(crate) use damping::{damp_hessian, pose_damping_norm};
 use numerics::vectors;
 use std::array;
 

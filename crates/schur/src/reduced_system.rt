@@ -20,6 +20,8 @@ use refusal::Refusal;
 pub struct ReducedSystem {
     pub hessian: [f64; 25],
     pub gradient: [f64; 5],
+    // here, as it begins at 1: a longer run of zeros would be set by a call of the C library
+    pub minimum_point_rcond: f64,
     pub cost: f64,
     pub squared_residual: f64,
     pub full_pose_gradient: [f64; 5],
@@ -27,7 +29,6 @@ pub struct ReducedSystem {
     pub point_model_reduction: f64,
     pub scaled_point_gradient_inf_norm: f64,
     pub weak_point_count: u16,
-    pub minimum_point_rcond: f64,
     // the Rust's own flag: the sums are there whether it is set or not
     pub valid: bool,
     pub block_count: u16,
@@ -57,35 +58,35 @@ impl ReducedSystem {
 
     /// Adds the damping to the pose's diagonal. Tests row 3.
     #[tactic(auto, unfolding(crate::specs::Model::finish_damping))]
-    pub fn finish_damping(self, damping: f64) -> Result<Self, Refusal>
+    pub fn finish_damping(mut self, damping: f64) -> Result<Self, Refusal>
         ensures result { result ≡ Model.finish_damping self damping }
         ensures answer { answer self result ≡ answer self (Model.finish_damping self damping) }
     {
         let damping = ValidDamping::new(damping)?;
-        Ok(self.damped(damping))
+        self.damp(damping);
+        Ok(self)
     }
 
-    /// The system with the damping added to the pose's diagonal
-    pub fn damped(self, damping: ValidDamping) -> Self
-        ensures { result ≡ Model.damped self damping }
+    /// Adds the damping to the pose's diagonal, in place.
+    #[tactic(auto, unfolding(crate::specs::Model::with_hessian))]
+    pub fn damp(&mut self, damping: ValidDamping)
+        ensures { self.new ≡ Model.damped self.old damping }
     {
-        let damping = damping.value();
-        let hessian = pose_model::damped_hessian(self.hessian, self.pose_diagonal, damping);
-        self.with_hessian(hessian)
+        pose_model::damp_hessian(&mut self.hessian, self.pose_diagonal, damping.value());
     }
 
     /// Whether every block taken in factored, and the equations are finite
     #[tactic(auto, unfolding(crate::specs::Model::is_valid))]
-    pub fn is_valid(self) -> bool
-        ensures { result ≡ Model.is_valid self }
+    pub fn is_valid(&self) -> bool
+        ensures { result ≡ Model.is_valid self.now }
     {
         self.valid & vectors::all_finite(&self.gradient) & vectors::all_finite(&self.hessian)
     }
 
     /// The largest scaled gradient entry of all points and of the pose
     #[tactic(auto, unfolding(crate::specs::Model::gradient_inf_norm))]
-    pub fn scaled_gradient_inf_norm(self) -> f64
-        ensures { result ≡ Model.gradient_inf_norm self }
+    pub fn scaled_gradient_inf_norm(&self) -> f64
+        ensures { result ≡ Model.gradient_inf_norm self.now }
     {
         let pose = gradient_norm::norm(self.full_pose_gradient, self.pose_diagonal);
         extrema::max(self.scaled_point_gradient_inf_norm, pose)
@@ -94,14 +95,15 @@ impl ReducedSystem {
     /// What a step of the pose is predicted to gain. Tests row 3.
     #[tactic(auto, unfolding(crate::specs::Model::predicted_reduction))]
     pub fn predicted_reduction(
-        self,
+        &self,
         step: [f64; 5],
         damping: f64,
         point_damping_norm: f64,
     ) -> Result<f64, Refusal>
-        ensures result { result ≡ Model.predicted_reduction self step damping point_damping_norm }
+        ensures result { result
+            ≡ Model.predicted_reduction self.now step damping point_damping_norm }
         ensures answer { answer zero result
-            ≡ answer zero (Model.predicted_reduction self step damping point_damping_norm) }
+            ≡ answer zero (Model.predicted_reduction self.now step damping point_damping_norm) }
     {
         let damping = ValidDamping::new(damping)?;
         Ok(self.reduction_of(step, damping, point_damping_norm))
@@ -109,21 +111,18 @@ impl ReducedSystem {
 
     /// What a step of the pose is predicted to gain at a valid damping
     #[tactic(auto, unfolding(crate::specs::Model::reduction_of))]
-    pub fn reduction_of(self, step: [f64; 5], damping: ValidDamping, point_damping_norm: f64) -> f64
-        ensures { result ≡ Model.reduction_of self step damping point_damping_norm }
+    pub fn reduction_of(
+        &self,
+        step: [f64; 5],
+        damping: ValidDamping,
+        point_damping_norm: f64,
+    ) -> f64
+        ensures { result ≡ Model.reduction_of self.now step damping point_damping_norm }
     {
         let undamped = self.point_model_reduction
             - pose_model::dot5(self.gradient, step)
             - 0.5 * pose_model::quadratic(self.hessian, step);
         let damping_norm = pose_model::pose_damping_norm(self.pose_diagonal, step);
         undamped + 0.5 * damping.value() * (damping_norm + point_damping_norm)
-    }
-
-    #[tactic(auto, unfolding(crate::specs::Model::with_hessian))]
-    fn with_hessian(mut self, hessian: [f64; 25]) -> Self
-        ensures { result ≡ Model.with_hessian self hessian }
-    {
-        self.hessian = hessian;
-        self
     }
 }

@@ -3,7 +3,8 @@
 
 // The damping of the pose's five equations, of kernel/two_view/schur.rs.
 
-ghost use Rattle.std.specs.Prelude.{◌≡◌, ◌<◌};
+ghost use Rattle.std.specs.Prelude.{◌≡◌, ◌<◌, List, Float};
+ghost use Rattle.numerics.specs.Vectors.{◌!◌};
 ghost use Rattle.schur.specs.PoseDamping as PoseDamping;
 
 use numerics::extrema;
@@ -25,23 +26,26 @@ fn damping_diagonal(d: [f64; 5]) -> [f64; 5]
     array::from_fn(|i| extrema::max(d[i], floor))
 }
 
-pub(crate) fn damped_hessian(h: [f64; 25], d: [f64; 5], damping: f64) -> [f64; 25]
-    ensures { result ≡ PoseDamping.damped_hessian h d damping }
+// Adds the damping to the Hessian's diagonal alone, in place.
+pub(crate) fn damp_hessian(h: &mut [f64; 25], d: [f64; 5], damping: f64)
+    ensures { h.new ≡ PoseDamping.damped_hessian h.old d damping }
 {
     let diagonal = damping_diagonal(d);
-    array::from_fn(|k| damped_entry(h, diagonal, damping, k))
+    for k in 0..25 {
+        h[k] = damped_entry(h[k], diagonal, damping, k);
+    }
 }
 
-// Damping goes to the Hessian's diagonal alone.
 #[tactic(auto, unfolding(crate::specs::PoseDamping::damped_entry))]
-fn damped_entry(h: [f64; 25], diagonal: [f64; 5], damping: f64, k: usize) -> f64
+fn damped_entry(entry: f64, diagonal: [f64; 5], damping: f64, k: usize) -> f64
     requires { k < 25 }
-    ensures { result ≡ PoseDamping.damped_entry h diagonal damping k }
+    ensures { (h : List Float) → entry ≡ h ! k
+        → result ≡ PoseDamping.damped_entry h diagonal damping k }
 {
     if k % 6 == 0 {
-        h[k] + damping * diagonal[k / 6]
+        entry + damping * diagonal[k / 6]
     } else {
-        h[k]
+        entry
     }
 }
 

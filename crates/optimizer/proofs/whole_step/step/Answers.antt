@@ -21,20 +21,20 @@ returns-then-not-is_valid c =
     let p = of c.args.problem.now in
     let passed = sym c.checked.ensures ∙ c.in_ok-checked.was in
     let tested = in_turn p _ _ (sym c.new.ensures ∙ c.in_ok-readable.was) passed in
-    let system = damped_sums _ _ _ _ _ passed c.block_sums-blocks.ensures.system c.damping.ensures c.damped-system.ensures in
+    let system = damped_sums _ _ _ _ _ passed c.add_blocks-accepted.ensures.system c.damping.ensures c.damp.ensures in
     not_valid p _ c.if-room-problem.false _ tested _ system (sym c.is_valid.ensures ∙ c.if-not-is_valid.true)
 
 pub write_steps-sums-requires-clause-valid : goal.write_steps-sums-requires-clause-valid
 write_steps-sums-requires-clause-valid c =
     let passed = sym c.checked.ensures ∙ c.in_ok-checked.was in
-    rw (← damped_sums _ _ _ _ _ passed c.block_sums-blocks.ensures.system c.damping.ensures c.damped-system.ensures) (sym c.is_valid.ensures ∙ c.if-not-is_valid.false)
+    rw (← damped_sums _ _ _ _ _ passed c.add_blocks-accepted.ensures.system c.damping.ensures c.damp.ensures) (sym c.is_valid.ensures ∙ c.if-not-is_valid.false)
 
 pub returns-in_err-x : goal.returns-in_err-x
 returns-in_err-x c =
     let p = of c.args.problem.now in
     let passed = sym c.checked.ensures ∙ c.in_ok-checked.was in
     let tested = in_turn p _ _ (sym c.new.ensures ∙ c.in_ok-readable.was) passed in
-    let system = damped_sums _ _ _ _ _ passed c.block_sums-blocks.ensures.system c.damping.ensures c.damped-system.ensures in
+    let system = damped_sums _ _ _ _ _ passed c.add_blocks-accepted.ensures.system c.damping.ensures c.damp.ensures in
     not_solved p _ c.if-room-problem.false _ tested _ system (sym c.is_valid.ensures ∙ c.if-not-is_valid.false) _ _ (sym c.solve_positive_definite.ensures.result ∙ c.in_err-x.was) (search rules)
 
 pub returns : goal.returns
@@ -42,5 +42,5 @@ returns c =
     let p = of c.args.problem.now in
     let passed = sym c.checked.ensures ∙ c.in_ok-checked.was in
     let tested = in_turn p _ _ (sym c.new.ensures ∙ c.in_ok-readable.was) passed in
-    let system = damped_sums _ _ _ _ _ passed c.block_sums-blocks.ensures.system c.damping.ensures c.damped-system.ensures in
+    let system = damped_sums _ _ _ _ _ passed c.add_blocks-accepted.ensures.system c.damping.ensures c.damp.ensures in
     solved p _ c.if-room-problem.false _ tested _ system (sym c.is_valid.ensures ∙ c.if-not-is_valid.false) _ _ _ _ _ (sym c.solve_positive_definite.ensures.result ∙ c.in_ok-x.was) c.pose_step-pose_step.ensures c.write_steps-sums.ensures.sums c.write_steps-sums.ensures.room c.of.ensures

@@ -1,6 +1,6 @@
 use Rattle.std.proofs.Common.{rules, arith}
 use Rattle.optimizer.proofs.Blocks.{room_left, block_taken, accepted_next, accepted_still}
-use Rattle.optimizer.proofs.assembly.block_sums.Goals as goal
+use Rattle.optimizer.proofs.assembly.add_blocks.Goals as goal
 
 pub unreachable-requires : goal.unreachable-requires
 unreachable-requires c =

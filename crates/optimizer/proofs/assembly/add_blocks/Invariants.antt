@@ -2,7 +2,7 @@ use Rattle.std.proofs.Common.{◌≡◌, true}
 use Rattle.problem.specs.Problem.{count}
 use Rattle.problem.specs.Checks.{Accepted}
 use Rattle.optimizer.specs.Assembly.{system_to}
-use Rattle.optimizer.proofs.assembly.block_sums.Given as goal
+use Rattle.optimizer.proofs.assembly.add_blocks.Given as goal
 
 abbrev pub invariant-loop-index : goal.invariant-loop-index
 invariant-loop-index l =
