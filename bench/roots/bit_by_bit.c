@@ -47,7 +47,7 @@ static inline struct words scaled(struct words mantissa, int32_t *exponent)
 /*
  * The 54 digits of the root of a mantissa from 1 up to 4, the first 22 in the upper word.
  *
- * A digit is taken if what the digits so far leave of the number is at least `trial`: twice these
+ * A digit is taken if what the digits so far leave of the number is at least `candidate`: twice these
  * digits, and the new one. What is left moves up by a place each turn.
  */
 static inline struct words digits_of_root(struct words mantissa)
@@ -55,21 +55,21 @@ static inline struct words digits_of_root(struct words mantissa)
     struct words left = doubled(mantissa), twice = {0, 0}, root = {0, 0};
 
     for (uint32_t digit = LEADING_BIT << 1; digit != 0; digit >>= 1) {
-        uint32_t trial = twice.high + digit;
-        if (trial <= left.high) {
-            left.high -= trial;
-            twice.high = trial + digit;
+        uint32_t candidate = twice.high + digit;
+        if (candidate <= left.high) {
+            left.high -= candidate;
+            twice.high = candidate + digit;
             root.high += digit;
         }
         left = doubled(left);
     }
 
     for (uint32_t digit = TOP_BIT; digit != 0; digit >>= 1) {
-        struct words trial = {twice.high, twice.low + digit};
-        if (trial.high < left.high || (trial.high == left.high && trial.low <= left.low)) {
-            left.high -= trial.high + (left.low < trial.low);
-            left.low -= trial.low;
-            twice.low = trial.low + digit;
+        struct words candidate = {twice.high, twice.low + digit};
+        if (candidate.high < left.high || (candidate.high == left.high && candidate.low <= left.low)) {
+            left.high -= candidate.high + (left.low < candidate.low);
+            left.low -= candidate.low;
+            twice.low = candidate.low + digit;
             twice.high += twice.low < digit;
             root.low += digit;
         }

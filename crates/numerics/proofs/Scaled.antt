@@ -105,7 +105,8 @@ module _ (f : Format) (m : ℕ) (e : ℤ) where
         (round_mono f _ _ _ _ (mul-pos (down_pos e) (down_pos d)) (down_pos d)
         (rw (mul_comm (suc m * up e) (n * up d), mul_assoc (n * up d) (suc m * up e) (down d)) (mul-le-mul_left (n * up d) (mul-le-mul_right (down d) at_most_one))))
 
-    -- where the product is below the value, so is its absolute value: no value with the sign has it so
+    -- where the product is below the value, so is its absolute value: no value with the sign has it
+    -- so
     scaled_below : (x : Float) → T (fits f x) → lt (abs (scaled x)) x ≡ lt (scaled x) x
     scaled_below x p = by (negative x) refl
       where

@@ -1,4 +1,5 @@
--- The checks of the whole step before any sum: rows 1 to 9 of document 01, "Refusals by number".
+-- The checks of the whole step that look at no sum: rows 1 to 9 of document 01, "Refusals by
+-- number".
 -- A row is given if its condition holds and no earlier one does; the lowest index comes first.
 use Rattle.std.specs.Prelude.{ℕ, ◌*◌, ◌<◌, ◌≤◌, ◌≡◌, Bool, true, not, ◌&&◌, List, [], ◌∷◌, eqb, leb, length, Float}
 use Rattle.std.specs.Result.{is_ok}

@@ -1,8 +1,8 @@
 // SPDX-FileCopyrightText: 2026 Pierre Moulon and OpenMVG Rust contributors
 // SPDX-License-Identifier: MIT OR Apache-2.0
 
-// Rows 1 to 9 of a two-view problem over lent memory, before any sum: kernel/two_view/optimizer.rs,
-// residual.rs.
+// Rows 1 to 9 of a two-view problem over lent memory, which look at no sum:
+// kernel/two_view/optimizer.rs, residual.rs.
 
 ghost use Rattle.std.specs.Prelude.{◌≡◌, ◌<◌, ◌*◌, ◌&&◌, eqb, leb, true, Ok, T};
 ghost use Rattle.std.specs.Result.{result_and};

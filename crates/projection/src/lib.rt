@@ -9,8 +9,9 @@
 //! and `camera_point` move a point into the second camera's frame.
 //!
 //! All of it is inlined into the loops over points, so that a camera, a point and what becomes of
-//! it stay in registers: of a chain of calls that hand arrays on, every link has to be. Where
-//! `pixel_projection` itself is called, its `Result` is opened at once and never stored.
+//! it stay in registers: of a chain of calls that hand arrays on, every link has to be.
+//! `pixel_projection` is called where a row is looked for and over C, and not in these loops; inlined
+//! there it hands its `Result` on without a copy.
 #![tactic(auto)]
 
 mod camera_frame;

@@ -25,8 +25,7 @@ Free s = (s.block_count < max_blocks) × (s.weak_point_count ≤ s.block_count)
 -- ---- taking a block in
 
 -- The system with the block's costs, pose terms and gradient norm taken in, as every block is,
--- and with what the elimination of its point changes. A block that does not factor
--- clears the flag.
+-- and with what the elimination of its point changes. A block that does not factor clears the flag.
 unfoldable pub taken_with : ReducedSystem → LocalLinearization → Change → ℕ → ReducedSystem
 taken_with s b e weak = record {
   hessian = e.hessian;
@@ -52,9 +51,11 @@ taken s b damping = taken_by s b (eliminate s b damping)
 
 -- rows 12 and 13
 abbrev pub check_room : ReducedSystem → Checked
-check_room s = cond (leb s.weak_point_count s.block_count) (cond (ltb s.block_count max_blocks) (Ok tt) (Err Full)) (Err WeakCount)
+check_room s =
+    cond (leb s.weak_point_count s.block_count) (cond (ltb s.block_count max_blocks) (Ok tt) (Err Full))
+    (Err WeakCount)
 
--- the same at a damping that row 3 lets through: rows 12 and 13, then the block taken in
+-- `add` at a damping that row 3 lets through: rows 12 and 13, then the block taken in
 abbrev pub take_in : ReducedSystem → LocalLinearization → Float → Result ReducedSystem Refusal
 take_in s b damping = result_and (check_room s) (Ok (taken s b damping))
 

@@ -15,8 +15,8 @@ use point_block::PointBlockFactor;
 use std::array;
 
 // The Hessian of the pose, with the block's less what the point takes up of it: the cross Hessian
-// times the inverse times the cross Hessian's transpose. A row at a time: by
-// `array::from_fn` over 25 entries a call is left, and the matrices go through memory.
+// times the inverse times the cross Hessian's transpose. A row at a time: by `array::from_fn` over
+// 25 entries a call is left, and the matrices go through memory.
 #[tactic(auto, using(numerics::proofs::Fill::array_none, numerics::proofs::Fill::row_of_five))]
 #[inline(always)]
 pub(crate) fn reduced_hessian(

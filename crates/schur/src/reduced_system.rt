@@ -2,8 +2,8 @@
 // SPDX-License-Identifier: MIT OR Apache-2.0
 
 // The reduced system: the 5 by 5 equations of the pose once each point is eliminated,
-// `ReducedSystem` of
-// kernel/two_view/schur.rs. Here is what is asked of it; `reduced_add` takes blocks in.
+// `ReducedSystem` of kernel/two_view/schur.rs. Here is what is asked of it; `reduced_add` takes
+// blocks in.
 
 ghost use Rattle.std.specs.Prelude.{◌≡◌};
 ghost use Rattle.numerics.specs.Binary64.{zero};
