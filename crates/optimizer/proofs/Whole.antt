@@ -14,7 +14,7 @@ use Rattle.schur.specs.Model.{damped, is_valid}
 use Rattle.schur.specs.declared.reduced_system.ReducedSystem.{ReducedSystem}
 use Rattle.problem.specs.Problem.{Problem, count}
 use Rattle.problem.specs.Checks as Checks
-use Rattle.problem.proofs.Passed.{passed, refused_first}
+use Rattle.problem.proofs.Passed.{refused_first}
 use Rattle.optimizer.specs.Assembly.{system_to, reduced_system}
 use Rattle.optimizer.specs.PoseStep.{pose_step}
 use Rattle.optimizer.specs.PointSteps.{steps_to, sums_to}
@@ -56,7 +56,7 @@ refused_by : (r : Checked) (p : Problem) (e : Refusal) → tested r p ≡ Err e 
 refused_by (Ok u) p e k = absurd (cc)
 refused_by (Err x) p e k = cc
 
-pub let_through : (r : Checked) (p q : Problem) → tested r p ≡ Ok q → (r ≡ Ok tt) × (q ≡ p)
+let_through : (r : Checked) (p q : Problem) → tested r p ≡ Ok q → (r ≡ Ok tt) × (q ≡ p)
 let_through (Ok u) p q k = (refl, cc)
 let_through (Err x) p q k = absurd (cc)
 
@@ -92,10 +92,6 @@ module _ (p : Problem) (room : List Float) where
 
       same : q ≡ p
       same = (let_through _ p q h).1
-
-      -- the room has three numbers a point
-      pub room_fits : length room ≡ 3 * count q
-      room_fits = t ∙ (passed p ok).fits.0 ∙ ap (λ (o : Problem). 3 * count o) (sym same)
 
       done : (r : Result StepResult Refusal) (after : List Float) → r ≡ solved_step p → after ≡ written p r room → Done p room r after
       unfolding step

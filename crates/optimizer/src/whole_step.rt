@@ -37,7 +37,8 @@ pub fn step(problem: &Problem, room: &mut [f64]) -> Result<StepResult, Refusal>
     Ok(StepResult::of(&checked, &system, pose_step, sums))
 }
 
-// Rows 4 to 9. The points are looked at again, in the order of the rows, only where one is refused.
+// Rows 4 to 9. The points are looked at again, in the order of the rows, only where one is refused
+// or row 5 or 7 refuses.
 fn checked(problem: ReadableProblem<'_>, accepted: bool) -> Result<CheckedProblem<'_>, Refusal>
     requires { accepted ≡ true → Checks.Accepted problem (Problems.count problem) }
     ensures { result ≡ result_and (Checks.check problem.entry) (Ok problem.entry) }
