@@ -10,8 +10,8 @@ use lib.ListN.{length}
 use lib.Ieee.{Float, fits, binary64, le, of_bits}
 use lib.Ieee.Bits.{is_true}
 use lib.Ieee.Fits.{add-fits}
-use Rattle.numerics.specs.Binary64.{zero, epsilon192}
-use Rattle.numerics.specs.Parts.{nonneg}
+use Rattle.numerics.specs.Binary64.{zero, point_block_rcond_threshold}
+use Rattle.numerics.specs.Classify.{is_nonnegative}
 use Rattle.numerics.proofs.Order.{le_refl, nonneg_not_nan, nonneg_add}
 use Rattle.numerics.proofs.Monotone.{le_add, le_trans, zero-le, nonneg_zero}
 use Rattle.numerics.specs.Extrema.{min}
@@ -21,21 +21,21 @@ use Rattle.std.specs.Result.{result_err}
 use Rattle.refusal.specs.declared.Refusal.{Refusal}
 use Rattle.refusal.specs.declared.Refusal.TheVariants.{Damping, Full}
 use Rattle.point_block.specs.Condition.{reciprocal_condition_number, is_weak}
-use Rattle.point_block.specs.Damping.{good_damping, is_zero}
-use Rattle.point_block.specs.Lone.{factor, lone_factor}
+use Rattle.point_block.specs.Damping.{is_valid_damping, is_zero}
+use Rattle.point_block.specs.FactorWithRcond.{factor, factor_with_rcond}
 use Rattle.point_block.specs.declared.PointBlockFactor.{PointBlockFactor}
 use Rattle.point_block.specs.declared.LoneFactor.{LoneFactor}
 use Rattle.point_block.proofs.Laws.{lone_factors, rcond_nonneg}
 use Rattle.linearization.specs.declared.linearize.LocalLinearization.{LocalLinearization}
 use Rattle.schur.specs.declared.reduced_system.ReducedSystem.{ReducedSystem}
-use Rattle.schur.specs.Model.{new_system}
-use Rattle.schur.specs.Elimination.{reduced_hessian, reduced_gradient, point_reduction}
-use Rattle.schur.specs.BlockElimination.{Change, raised, not_eliminated, eliminated, eliminate}
+use Rattle.schur.specs.Reduced.{new_system}
+use Rattle.schur.specs.SchurComplement.{reduced_hessian, reduced_gradient, point_reduction}
+use Rattle.schur.specs.BlockElimination.{Elimination, count_if, unfactored, after_elimination, elimination_of}
 use Rattle.schur.proofs.Room.{blocks_taken, weak_taken_at_most}
-use Rattle.schur.specs.System.{max_blocks, taken_with, taken_by, taken, add, handed_back}
-use Rattle.add_sequences.specs.Calls.{Inputs, made, Call, at_damping, at_refused, next, results, after, after_blocks, Tally, factors, small_rcond, not_full, taken_in, tally, refusals, blocks_in, all, filter}
+use Rattle.schur.specs.ReducedAdd.{max_blocks, taken_with, taken_by, with_block, add, system_after}
+use Rattle.add_sequences.specs.Calls.{Inputs, linearization_of, Call, Add, RefusedAdd, system_after_call, call_results, system_after_calls, system_after_blocks, Counters, factors, is_ill_conditioned, has_room, count_block, count_calls, refusals_of, blocks_taken_in, all, filter}
 use Rattle.linearization.proofs.Costs.{Costs, made_costs}
-use Rattle.add_sequences.specs.Claim.{CallByCall, final, TakesInAll, SameEquations, Further, Claim}
+use Rattle.add_sequences.specs.Claim.{CallByCall, system_after_run, TakesInAll, SameEquations, IsMonotone, Claim}
 
 -- ---- what one call hands back
 
@@ -45,18 +45,18 @@ Counts s = s.weak_point_count ≤ s.block_count
 tested : (s : ReducedSystem) → Counts s → leb s.weak_point_count s.block_count ≡ true
 tested s c = is_true (leb s.weak_point_count s.block_count) (le→leb s.weak_point_count s.block_count c)
 
-add_bad : (s : ReducedSystem) (b : LocalLinearization) (x : Float) → good_damping x ≡ false → add s b x ≡ Err Damping
+add_bad : (s : ReducedSystem) (b : LocalLinearization) (x : Float) → is_valid_damping x ≡ false → add s b x ≡ Err Damping
 unfolding add
 add_bad s b x h = rw h refl
 
-module _ (d : Float) (good : T (good_damping d)) where
-  add_taken : (s : ReducedSystem) (b : LocalLinearization) → Counts s → not_full s.block_count ≡ true → add s b d ≡ Ok (taken s b d)
+module _ (d : Float) (good : T (is_valid_damping d)) where
+  add_taken : (s : ReducedSystem) (b : LocalLinearization) → Counts s → has_room s.block_count ≡ true → add s b d ≡ Ok (with_block s b d)
   unfolding add
-  add_taken s b c e = rw (is_true (good_damping d) good, tested s c, e) refl
+  add_taken s b c e = rw (is_true (is_valid_damping d) good, tested s c, e) refl
 
-  add_full : (s : ReducedSystem) (b : LocalLinearization) → Counts s → not_full s.block_count ≡ false → add s b d ≡ Err Full
+  add_full : (s : ReducedSystem) (b : LocalLinearization) → Counts s → has_room s.block_count ≡ false → add s b d ≡ Err Full
   unfolding add
-  add_full s b c e = rw (is_true (good_damping d) good, tested s c, e) refl
+  add_full s b c e = rw (is_true (is_valid_damping d) good, tested s c, e) refl
 
   -- ---- a block taken in: whether it factors is the lone factor's answer
 
@@ -75,80 +75,80 @@ module _ (d : Float) (good : T (good_damping d)) where
   abbrev lone_of : LocalLinearization → Result PointBlockFactor Refusal → Result LoneFactor Refusal
   lone_of b f = elim f [ Ok g ↦ Ok (record { factor = g; rcond = reciprocal_condition_number g.inverse b.point_hessian }) | Err r ↦ Err r ]
 
-  same_rcond : (b : LocalLinearization) → factors d b ≡ true → is_weak (reciprocal_condition_number (inverse b) b.point_hessian) ≡ small_rcond d b
-  unfolding lone_factor small_rcond
-  same_rcond b e = rw (is_true (good_damping d) good) (by (factor b.point_hessian d) (same_factor b ∙ e))
+  same_rcond : (b : LocalLinearization) → factors d b ≡ true → is_weak (reciprocal_condition_number (inverse b) b.point_hessian) ≡ is_ill_conditioned d b
+  unfolding factor_with_rcond is_ill_conditioned
+  same_rcond b e = rw (is_true (is_valid_damping d) good) (by (factor b.point_hessian d) (same_factor b ∙ e))
     where
       by : (f : Result PointBlockFactor Refusal) → is_ok f ≡ true
-          → is_weak (reciprocal_condition_number (inverse_in f) b.point_hessian) ≡ le (elim (lone_of b f) [ Ok g ↦ g.rcond | Err r ↦ zero ]) epsilon192
+          → is_weak (reciprocal_condition_number (inverse_in f) b.point_hessian) ≡ le (elim (lone_of b f) [ Ok g ↦ g.rcond | Err r ↦ zero ]) point_block_rcond_threshold
       by (Ok f) t = refl
       by (Err r) t = absurd (true≢false (sym t))
 
   -- what the elimination of a block changes, by the answer on its factor
-  abbrev changed_by : Result PointBlockFactor Refusal → ReducedSystem → LocalLinearization → Change
-  changed_by r s b = elim r [ Ok f ↦ eliminated s b d f.inverse | Err e ↦ not_eliminated s (is_zero d) ]
+  abbrev changed_by : Result PointBlockFactor Refusal → ReducedSystem → LocalLinearization → Elimination
+  changed_by r s b = elim r [ Ok f ↦ after_elimination s b d f.inverse | Err e ↦ unfactored s (is_zero d) ]
 
-  taken_factored : (s : ReducedSystem) (b : LocalLinearization) → factors d b ≡ true → taken s b d ≡ taken_by s b (eliminated s b d (inverse b))
-  unfolding taken eliminate
+  taken_factored : (s : ReducedSystem) (b : LocalLinearization) → factors d b ≡ true → with_block s b d ≡ taken_by s b (after_elimination s b d (inverse b))
+  unfolding with_block elimination_of
   taken_factored s b e = by (factor b.point_hessian d) (same_factor b ∙ e)
     where
-      by : (f : Result PointBlockFactor Refusal) → is_ok f ≡ true → taken_by s b (changed_by f s b) ≡ taken_by s b (eliminated s b d (inverse_in f))
+      by : (f : Result PointBlockFactor Refusal) → is_ok f ≡ true → taken_by s b (changed_by f s b) ≡ taken_by s b (after_elimination s b d (inverse_in f))
       by (Ok f) t = refl
       by (Err r) t = absurd (true≢false (sym t))
 
-  taken_refused : (s : ReducedSystem) (b : LocalLinearization) → factors d b ≡ false → taken s b d ≡ taken_by s b (not_eliminated s (is_zero d))
-  unfolding taken eliminate
+  taken_refused : (s : ReducedSystem) (b : LocalLinearization) → factors d b ≡ false → with_block s b d ≡ taken_by s b (unfactored s (is_zero d))
+  unfolding with_block elimination_of
   taken_refused s b e = by (factor b.point_hessian d) (same_factor b ∙ e)
     where
-      by : (f : Result PointBlockFactor Refusal) → is_ok f ≡ false → taken_by s b (changed_by f s b) ≡ taken_by s b (not_eliminated s (is_zero d))
+      by : (f : Result PointBlockFactor Refusal) → is_ok f ≡ false → taken_by s b (changed_by f s b) ≡ taken_by s b (unfactored s (is_zero d))
       by (Ok f) t = absurd (true≢false t)
       by (Err r) t = refl
 
-  split : (s : ReducedSystem) (b : LocalLinearization) (P : ReducedSystem → Type 0) → (factors d b ≡ true → P (taken_by s b (eliminated s b d (inverse b))))
-      → (factors d b ≡ false → P (taken_by s b (not_eliminated s (is_zero d)))) → P (taken s b d)
+  split : (s : ReducedSystem) (b : LocalLinearization) (P : ReducedSystem → Type 0) → (factors d b ≡ true → P (taken_by s b (after_elimination s b d (inverse b))))
+      → (factors d b ≡ false → P (taken_by s b (unfactored s (is_zero d)))) → P (with_block s b d)
   split s b P f g = by (factors d b) refl
     where
-      by : (x : Bool) → factors d b ≡ x → P (taken s b d)
+      by : (x : Bool) → factors d b ≡ x → P (with_block s b d)
       by true e = subst P (sym (taken_factored s b e)) (f e)
       by false e = subst P (sym (taken_refused s b e)) (g e)
 
   module _ (s : ReducedSystem) (b : LocalLinearization) where
-    valid_taken : (taken s b d).valid ≡ (s.valid && factors d b)
-    unfolding eliminated not_eliminated taken_with
+    valid_taken : (with_block s b d).valid ≡ (s.valid && factors d b)
+    unfolding after_elimination unfactored taken_with
     valid_taken = split s b (λ t. t.valid ≡ (s.valid && factors d b)) (λ e. rw e refl) (λ e. rw e refl)
 
-    weak_taken : (taken s b d).weak_point_count ≡ raised (is_zero d && (not (factors d b) || small_rcond d b)) s.weak_point_count
-    unfolding eliminated not_eliminated taken_with
+    weak_taken : (with_block s b d).weak_point_count ≡ count_if (is_zero d && (not (factors d b) || is_ill_conditioned d b)) s.weak_point_count
+    unfolding after_elimination unfactored taken_with
     weak_taken =
-        split s b (λ t. t.weak_point_count ≡ raised (is_zero d && (not (factors d b) || small_rcond d b)) s.weak_point_count)
-        (λ e. ap (λ (z : Bool). raised z s.weak_point_count) (rw (e, same_rcond b e) refl))
-        (λ e. rw e (ap (λ (z : Bool). raised z s.weak_point_count) (sym (and-true (is_zero d)))))
+        split s b (λ t. t.weak_point_count ≡ count_if (is_zero d && (not (factors d b) || is_ill_conditioned d b)) s.weak_point_count)
+        (λ e. ap (λ (z : Bool). count_if z s.weak_point_count) (rw (e, same_rcond b e) refl))
+        (λ e. rw e (ap (λ (z : Bool). count_if z s.weak_point_count) (sym (and-true (is_zero d)))))
 
   -- the reduced equations see a block that factors, and no other
   module _ (s t : ReducedSystem) (b : LocalLinearization) (same : SameEquations s t) where
-    equations_factored : factors d b ≡ true → SameEquations (taken s b d) (taken t b d)
-    unfolding eliminated taken_with
+    equations_factored : factors d b ≡ true → SameEquations (with_block s b d) (with_block t b d)
+    unfolding after_elimination taken_with
     equations_factored e = rw (taken_factored s b e, taken_factored t b e) (record {
       hessian = ap (λ h. reduced_hessian h (inverse b) b) same.hessian;
       gradient = ap (λ h. reduced_gradient h (inverse b) b) same.gradient;
       reduction = ap (λ h. point_reduction h (inverse b) b) same.reduction;
     })
 
-    equations_refused : factors d b ≡ false → SameEquations (taken s b d) t
-    unfolding not_eliminated taken_with
+    equations_refused : factors d b ≡ false → SameEquations (with_block s b d) t
+    unfolding unfactored taken_with
     equations_refused e = rw (taken_refused s b e) (record { hessian = same.hessian; gradient = same.gradient; reduction = same.reduction })
 
   -- ---- what further calls never do
 
   record Sound (s : ReducedSystem) : Type 0 where
     counts : Counts s
-    cost : T (nonneg s.cost)
+    cost : T (is_nonnegative s.cost)
     cost_fits : T (fits binary64 s.cost)
-    squared : T (nonneg s.squared_residual)
+    squared : T (is_nonnegative s.squared_residual)
     squared_fits : T (fits binary64 s.squared_residual)
-    rcond : T (nonneg s.minimum_point_rcond)
+    rcond : T (is_nonnegative s.minimum_point_rcond)
 
-  further_refl : (s : ReducedSystem) → Sound s → Further s s
+  further_refl : (s : ReducedSystem) → Sound s → IsMonotone s s
   further_refl s k = record {
     cost = le_refl s.cost (nonneg_not_nan s.cost k.cost);
     squared = le_refl s.squared_residual (nonneg_not_nan s.squared_residual k.squared);
@@ -157,7 +157,7 @@ module _ (d : Float) (good : T (good_damping d)) where
     flag = λ h. h;
   }
 
-  further_trans : (s t u : ReducedSystem) → Further s t → Further t u → Further s u
+  further_trans : (s t u : ReducedSystem) → IsMonotone s t → IsMonotone t u → IsMonotone s u
   further_trans s t u f g = record {
     cost = le_trans s.cost t.cost u.cost f.cost g.cost;
     squared = le_trans s.squared_residual t.squared_residual u.squared_residual f.squared g.squared;
@@ -168,12 +168,12 @@ module _ (d : Float) (good : T (good_damping d)) where
   }
 
   -- a made block's costs are numbers not below zero
-  module _ (s : ReducedSystem) (b : LocalLinearization) (k : Sound s) (cost : T (nonneg b.cost)) (squared : T (nonneg b.squared_residual)) where
+  module _ (s : ReducedSystem) (b : LocalLinearization) (k : Sound s) (cost : T (is_nonnegative b.cost)) (squared : T (is_nonnegative b.squared_residual)) where
     -- the smallest rcond stays a number not below zero, and does not rise
-    rcond_taken : T (nonneg (taken s b d).minimum_point_rcond) × T (le (taken s b d).minimum_point_rcond s.minimum_point_rcond)
-    unfolding eliminated not_eliminated taken_with
+    rcond_taken : T (is_nonnegative (with_block s b d).minimum_point_rcond) × T (le (with_block s b d).minimum_point_rcond s.minimum_point_rcond)
+    unfolding after_elimination unfactored taken_with
     rcond_taken =
-        split s b (λ t. T (nonneg t.minimum_point_rcond) × T (le t.minimum_point_rcond s.minimum_point_rcond))
+        split s b (λ t. T (is_nonnegative t.minimum_point_rcond) × T (le t.minimum_point_rcond s.minimum_point_rcond))
         (λ e. by (is_zero d) (min m (reciprocal_condition_number (inverse b) b.point_hessian))
         (nonneg_min m (reciprocal_condition_number (inverse b) b.point_hessian) k.rcond (rcond_nonneg (inverse b) b.point_hessian))
         (min_le_left m (reciprocal_condition_number (inverse b) b.point_hessian) (nonneg_not_nan m k.rcond)))
@@ -182,12 +182,12 @@ module _ (d : Float) (good : T (good_damping d)) where
         m : Float
         m = s.minimum_point_rcond
 
-        by : (z : Bool) (x : Float) → T (nonneg x) → T (le x m) → T (nonneg (cond z x m)) × T (le (cond z x m) m)
+        by : (z : Bool) (x : Float) → T (is_nonnegative x) → T (le x m) → T (is_nonnegative (cond z x m)) × T (le (cond z x m) m)
         by true x n l = (n, l)
         by false x n l = (k.rcond, le_refl m (nonneg_not_nan m k.rcond))
 
-    sound_taken : Sound (taken s b d)
-    unfolding taken taken_with
+    sound_taken : Sound (with_block s b d)
+    unfolding with_block taken_with
     sound_taken = record {
       counts = weak_taken_at_most s b d k.counts;
       cost = nonneg_add binary64 s.cost b.cost k.cost cost;
@@ -197,45 +197,45 @@ module _ (d : Float) (good : T (good_damping d)) where
       rcond = rcond_taken.0;
     }
 
-    further_taken : Further s (taken s b d)
-    unfolding taken taken_with
+    further_taken : IsMonotone s (with_block s b d)
+    unfolding with_block taken_with
     further_taken = record {
       cost = le_add binary64 s.cost b.cost k.cost_fits k.cost cost;
       squared = le_add binary64 s.squared_residual b.squared_residual k.squared_fits k.squared squared;
-      weak = rw (weak_taken s b) (by (is_zero d && (not (factors d b) || small_rcond d b)));
+      weak = rw (weak_taken s b) (by (is_zero d && (not (factors d b) || is_ill_conditioned d b)));
       rcond = rcond_taken.1;
       flag = λ h. valid_taken s b ∙ ap (λ (x : Bool). x && factors d b) h;
     }
       where
-        by : (x : Bool) → T (leb s.weak_point_count (raised x s.weak_point_count))
+        by : (x : Bool) → T (leb s.weak_point_count (count_if x s.weak_point_count))
         by true = le→leb s.weak_point_count (suc s.weak_point_count) (omega arith)
         by false = le→leb s.weak_point_count s.weak_point_count (omega arith)
 
   -- ---- the calls, one by one
 
-  abbrev tally_of : ReducedSystem → Tally
+  abbrev tally_of : ReducedSystem → Counters
   tally_of s = record { flag = s.valid; blocks = s.block_count; weak = s.weak_point_count }
 
-  tally_taken : (s : ReducedSystem) (b : LocalLinearization) → tally_of (taken s b d) ≡ taken_in d (tally_of s) b
+  tally_taken : (s : ReducedSystem) (b : LocalLinearization) → tally_of (with_block s b d) ≡ count_block d (tally_of s) b
   tally_taken s b = rw (valid_taken s b, blocks_taken s b d, weak_taken s b) refl
 
   abbrev weak_in : List LocalLinearization → ℕ
-  weak_in bs = length (filter (λ b. not (factors d b)) bs) + length (filter (λ b. factors d b && small_rcond d b) bs)
+  weak_in bs = length (filter (λ b. not (factors d b)) bs) + length (filter (λ b. factors d b && is_ill_conditioned d b) bs)
 
   -- What calls that take in the blocks bs make of s. The equations are those of any other system
   -- that had the same and adds only the blocks that factor.
-  record From (s end : ReducedSystem) (t : Tally) (bs : List LocalLinearization) : Type 0 where
+  record From (s end : ReducedSystem) (t : Counters) (bs : List LocalLinearization) : Type 0 where
     sound : Sound end
     tallied : tally_of end ≡ t
-    blocks_alone : end ≡ after_blocks d s bs
+    blocks_alone : end ≡ system_after_blocks d s bs
     takes_in : TakesInAll s bs end
     how_many : s.block_count + length bs ≡ end.block_count
     flag : end.valid ≡ (s.valid && all (factors d) bs)
     elimination : (u : ReducedSystem) → Counts u → T (leb u.block_count s.block_count) → SameEquations s u
-        → SameEquations end (after_blocks d u (filter (factors d) bs))
+        → SameEquations end (system_after_blocks d u (filter (factors d) bs))
     weak_zero : is_zero d ≡ true → end.weak_point_count ≡ s.weak_point_count + weak_in bs
     weak_other : is_zero d ≡ false → end.weak_point_count ≡ s.weak_point_count
-    further : Further s end
+    further : IsMonotone s end
 
   from_none : (s : ReducedSystem) → Sound s → From s s (tally_of s) []
   from_none s k = record {
@@ -251,19 +251,19 @@ module _ (d : Float) (good : T (good_damping d)) where
     further = further_refl s k;
   }
 
-  module _ (s : ReducedSystem) (i : Inputs) (k : Sound s) (free : not_full s.block_count ≡ true) where
+  module _ (s : ReducedSystem) (i : Inputs) (k : Sound s) (free : has_room s.block_count ≡ true) where
     abbrev b : LocalLinearization
-    b = made i
+    b = linearization_of i
 
     costs : Costs b
     costs = made_costs i.rig i.correspondence
 
-    next_sound : Sound (taken s b d)
+    next_sound : Sound (with_block s b d)
     next_sound = sound_taken s b k costs.0 costs.1
 
-    module _ (end : ReducedSystem) (t : Tally) (bs : List LocalLinearization) (f : From (taken s b d) end t bs) where
+    module _ (end : ReducedSystem) (t : Counters) (bs : List LocalLinearization) (f : From (with_block s b d) end t bs) where
       from_takes_in : TakesInAll s (b ∷ bs) end
-      unfolding taken taken_with
+      unfolding with_block taken_with
       from_takes_in = let g = f.takes_in in record {
         cost = g.cost;
         squared = g.squared;
@@ -279,28 +279,28 @@ module _ (d : Float) (good : T (good_damping d)) where
       from_flag = f.flag ∙ ap (λ (x : Bool). x && all (factors d) bs) (valid_taken s b) ∙ and_assoc s.valid (factors d b) (all (factors d) bs)
 
       from_weak : is_zero d ≡ true → end.weak_point_count ≡ s.weak_point_count + weak_in (b ∷ bs)
-      from_weak z = by (factors d b) (small_rcond d b) (f.weak_zero z ∙ ap (λ n. n + weak_in bs) (weak_taken s b ∙ rw z refl))
+      from_weak z = by (factors d b) (is_ill_conditioned d b) (f.weak_zero z ∙ ap (λ n. n + weak_in bs) (weak_taken s b ∙ rw z refl))
         where
-          by : (x y : Bool) → end.weak_point_count ≡ raised (not x || y) s.weak_point_count + weak_in bs
+          by : (x y : Bool) → end.weak_point_count ≡ count_if (not x || y) s.weak_point_count + weak_in bs
               → end.weak_point_count ≡ s.weak_point_count + (length (cond (not x) (b ∷ filter (λ b. not (factors d b)) bs) (filter (λ b. not (factors d b)) bs))
-              + length (cond (x && y) (b ∷ filter (λ b. factors d b && small_rcond d b) bs) (filter (λ b. factors d b && small_rcond d b) bs)))
+              + length (cond (x && y) (b ∷ filter (λ b. factors d b && is_ill_conditioned d b) bs) (filter (λ b. factors d b && is_ill_conditioned d b) bs)))
           by true true e = omega arith
           by true false e = omega arith
           by false y e = omega arith
 
       from_elimination : (u : ReducedSystem) → Counts u → T (leb u.block_count s.block_count) → SameEquations s u
-          → SameEquations end (after_blocks d u (filter (factors d) (b ∷ bs)))
+          → SameEquations end (system_after_blocks d u (filter (factors d) (b ∷ bs)))
       from_elimination u c l same = by (factors d b) refl
         where
           below : u.block_count ≤ s.block_count
           below = leb→le u.block_count s.block_count l
 
-          u_free : not_full u.block_count ≡ true
-          u_free = is_true (not_full u.block_count) (lt→ltb u.block_count max_blocks (lt_of_le_of_lt below (ltb→lt s.block_count max_blocks (rw free tt))))
+          u_free : has_room u.block_count ≡ true
+          u_free = is_true (has_room u.block_count) (lt→ltb u.block_count max_blocks (lt_of_le_of_lt below (ltb→lt s.block_count max_blocks (rw free tt))))
 
-          by : (x : Bool) → factors d b ≡ x → SameEquations end (after_blocks d u (cond x (b ∷ filter (factors d) bs) (filter (factors d) bs)))
-          by true e = subst (λ (a : Result ReducedSystem Refusal). SameEquations end (after_blocks d (handed_back u a) (filter (factors d) bs))) (sym (add_taken u b c u_free))
-              (f.elimination (taken u b d) (weak_taken_at_most u b d c) (rw (blocks_taken u b d, blocks_taken s b d) (le→leb (suc u.block_count) (suc s.block_count) (omega (arith, below))))
+          by : (x : Bool) → factors d b ≡ x → SameEquations end (system_after_blocks d u (cond x (b ∷ filter (factors d) bs) (filter (factors d) bs)))
+          by true e = subst (λ (a : Result ReducedSystem Refusal). SameEquations end (system_after_blocks d (system_after u a) (filter (factors d) bs))) (sym (add_taken u b c u_free))
+              (f.elimination (with_block u b d) (weak_taken_at_most u b d c) (rw (blocks_taken u b d, blocks_taken s b d) (le→leb (suc u.block_count) (suc s.block_count) (omega (arith, below))))
               (equations_factored s u b same e))
           by false e = f.elimination u c (rw (blocks_taken s b d) (le→leb u.block_count (suc s.block_count) (omega (arith, below)))) (equations_refused s u b same e)
 
@@ -308,60 +308,60 @@ module _ (d : Float) (good : T (good_damping d)) where
       from_taken = record {
         sound = f.sound;
         tallied = f.tallied;
-        blocks_alone = f.blocks_alone ∙ sym (ap (λ (a : Result ReducedSystem Refusal). after_blocks d (handed_back s a) bs) (add_taken s b k.counts free));
+        blocks_alone = f.blocks_alone ∙ sym (ap (λ (a : Result ReducedSystem Refusal). system_after_blocks d (system_after s a) bs) (add_taken s b k.counts free));
         takes_in = from_takes_in;
         how_many = from_how_many;
         flag = from_flag;
         elimination = from_elimination;
         weak_zero = from_weak;
         weak_other = λ z. f.weak_other z ∙ weak_taken s b ∙ rw z refl;
-        further = further_trans s (taken s b d) end (further_taken s b k costs.0 costs.1) f.further;
+        further = further_trans s (with_block s b d) end (further_taken s b k costs.0 costs.1) f.further;
       }
 
   abbrev Rest : List Call → ReducedSystem → Type 0
-  Rest cs s = From s (after d s cs) (tally d (tally_of s) cs) (blocks_in s.block_count cs)
+  Rest cs s = From s (system_after_calls d s cs) (count_calls d (tally_of s) cs) (blocks_taken_in s.block_count cs)
 
   from : (s : ReducedSystem) (cs : List Call) → Sound s → Rest cs s
   from s [] k = from_none s k
-  from s (at_refused i x h ∷ cs) k = rw (add_bad s (made i) x h) (from s cs k)
-  from s (at_damping i ∷ cs) k = by (not_full s.block_count) refl (λ h. from (taken s (made i) d) cs h) (from s cs k)
+  from s (RefusedAdd i x h ∷ cs) k = rw (add_bad s (linearization_of i) x h) (from s cs k)
+  from s (Add i ∷ cs) k = by (has_room s.block_count) refl (λ h. from (with_block s (linearization_of i) d) cs h) (from s cs k)
     where
-      by : (x : Bool) → not_full s.block_count ≡ x → (Sound (taken s (made i) d) → Rest cs (taken s (made i) d)) → Rest cs s
-          → From s (after d (handed_back s (add s (made i) d)) cs) (tally d (cond x (taken_in d (tally_of s) (made i)) (tally_of s)) cs)
-          (cond x (made i ∷ blocks_in (suc s.block_count) cs) (blocks_in s.block_count cs))
-      by true e f g = rw (add_taken s (made i) k.counts e)
-          (from_taken s i k e (after d (taken s (made i) d) cs) (tally d (taken_in d (tally_of s) (made i)) cs) (blocks_in (suc s.block_count) cs)
-          (rw (← tally_taken s (made i), ← blocks_taken s (made i) d) (f (next_sound s i k e))))
-      by false e f g = rw (add_full s (made i) k.counts e) g
+      by : (x : Bool) → has_room s.block_count ≡ x → (Sound (with_block s (linearization_of i) d) → Rest cs (with_block s (linearization_of i) d)) → Rest cs s
+          → From s (system_after_calls d (system_after s (add s (linearization_of i) d)) cs) (count_calls d (cond x (count_block d (tally_of s) (linearization_of i)) (tally_of s)) cs)
+          (cond x (linearization_of i ∷ blocks_taken_in (suc s.block_count) cs) (blocks_taken_in s.block_count cs))
+      by true e f g = rw (add_taken s (linearization_of i) k.counts e)
+          (from_taken s i k e (system_after_calls d (with_block s (linearization_of i) d) cs) (count_calls d (count_block d (tally_of s) (linearization_of i)) cs) (blocks_taken_in (suc s.block_count) cs)
+          (rw (← tally_taken s (linearization_of i), ← blocks_taken s (linearization_of i) d) (f (next_sound s i k e))))
+      by false e f g = rw (add_full s (linearization_of i) k.counts e) g
 
-  refused_each : (s : ReducedSystem) (cs : List Call) → Sound s → map result_err (results d s cs) ≡ refusals d (tally_of s) cs
+  refused_each : (s : ReducedSystem) (cs : List Call) → Sound s → map result_err (call_results d s cs) ≡ refusals_of d (tally_of s) cs
   refused_each s [] k = refl
-  refused_each s (at_refused i x h ∷ cs) k = rw (add_bad s (made i) x h) (ap (λ l. Some Damping ∷ l) (refused_each s cs k))
-  refused_each s (at_damping i ∷ cs) k = by (not_full s.block_count) refl (λ h. refused_each (taken s (made i) d) cs h) (refused_each s cs k)
+  refused_each s (RefusedAdd i x h ∷ cs) k = rw (add_bad s (linearization_of i) x h) (ap (λ l. Some Damping ∷ l) (refused_each s cs k))
+  refused_each s (Add i ∷ cs) k = by (has_room s.block_count) refl (λ h. refused_each (with_block s (linearization_of i) d) cs h) (refused_each s cs k)
     where
-      by : (x : Bool) → not_full s.block_count ≡ x
-          → (Sound (taken s (made i) d) → map result_err (results d (taken s (made i) d) cs) ≡ refusals d (tally_of (taken s (made i) d)) cs)
-          → map result_err (results d s cs) ≡ refusals d (tally_of s) cs
-          → (result_err (add s (made i) d) ∷ map result_err (results d (handed_back s (add s (made i) d)) cs))
-          ≡ cond x None (Some Full) ∷ refusals d (cond x (taken_in d (tally_of s) (made i)) (tally_of s)) cs
-      by true e f g = rw (add_taken s (made i) k.counts e, ← tally_taken s (made i)) (ap (λ l. None ∷ l) (f (next_sound s i k e)))
-      by false e f g = rw (add_full s (made i) k.counts e) (ap (λ l. Some Full ∷ l) g)
+      by : (x : Bool) → has_room s.block_count ≡ x
+          → (Sound (with_block s (linearization_of i) d) → map result_err (call_results d (with_block s (linearization_of i) d) cs) ≡ refusals_of d (tally_of (with_block s (linearization_of i) d)) cs)
+          → map result_err (call_results d s cs) ≡ refusals_of d (tally_of s) cs
+          → (result_err (add s (linearization_of i) d) ∷ map result_err (call_results d (system_after s (add s (linearization_of i) d)) cs))
+          ≡ cond x None (Some Full) ∷ refusals_of d (cond x (count_block d (tally_of s) (linearization_of i)) (tally_of s)) cs
+      by true e f g = rw (add_taken s (linearization_of i) k.counts e, ← tally_taken s (linearization_of i)) (ap (λ l. None ∷ l) (f (next_sound s i k e)))
+      by false e f g = rw (add_full s (linearization_of i) k.counts e) (ap (λ l. Some Full ∷ l) g)
 
-  after_append : (s : ReducedSystem) (cs more : List Call) → after d s (cs ++ more) ≡ after d (after d s cs) more
+  after_append : (s : ReducedSystem) (cs more : List Call) → system_after_calls d s (cs ++ more) ≡ system_after_calls d (system_after_calls d s cs) more
   after_append s [] more = refl
-  after_append s (c ∷ cs) more = after_append (next d s c) cs more
+  after_append s (c ∷ cs) more = after_append (system_after_call d s c) cs more
 
   -- whoever runs the list call by call has its results
-  ran_each : (s : ReducedSystem) (cs : List Call) (ran : List (Result ReducedSystem Refusal)) → CallByCall d s cs ran → (ran ≡ results d s cs) × (final s ran ≡ after d s cs)
+  ran_each : (s : ReducedSystem) (cs : List Call) (ran : List (Result ReducedSystem Refusal)) → CallByCall d s cs ran → (ran ≡ call_results d s cs) × (system_after_run s ran ≡ system_after_calls d s cs)
   ran_each s [] [] h = (refl, refl)
   ran_each s [] (r ∷ rs) h = absurd h
   ran_each s (c ∷ cs) [] h = absurd h
   ran_each s (c ∷ cs) (r ∷ rs) h =
-      let k = ran_each (handed_back s r) cs rs h.1 in
-      subst (λ (x : Result ReducedSystem Refusal). (r ∷ rs ≡ x ∷ results d (handed_back s x) cs) × (final (handed_back s r) rs ≡ after d (handed_back s x) cs)) h.0 (ap (λ l. r ∷ l) k.0, k.1)
+      let k = ran_each (system_after s r) cs rs h.1 in
+      subst (λ (x : Result ReducedSystem Refusal). (r ∷ rs ≡ x ∷ call_results d (system_after s x) cs) × (system_after_run (system_after s r) rs ≡ system_after_calls d (system_after s x) cs)) h.0 (ap (λ l. r ∷ l) k.0, k.1)
 
   sound_new : Sound new_system
-  unfolding new_system nonneg of_bits fits
+  unfolding new_system is_nonnegative of_bits fits
   sound_new = record { counts = omega arith; cost = tt; cost_fits = tt; squared = tt; squared_fits = tt; rcond = tt }
 
   -- ---- the theorem
@@ -371,16 +371,16 @@ module _ (d : Float) (good : T (good_damping d)) where
   claim calls = let f = from new_system calls sound_new in record {
     figures = λ ran h. let k = ran_each new_system calls ran h in record { each = k.0; last = k.1; blocks_alone = k.1 ∙ f.blocks_alone };
     tallied = record {
-      flag = ap (λ (t : Tally). t.flag) f.tallied;
-      blocks = ap (λ (t : Tally). t.blocks) f.tallied;
-      weak = ap (λ (t : Tally). t.weak) f.tallied;
+      flag = ap (λ (t : Counters). t.flag) f.tallied;
+      blocks = ap (λ (t : Counters). t.blocks) f.tallied;
+      weak = ap (λ (t : Counters). t.weak) f.tallied;
       refused = refused_each new_system calls sound_new;
     };
     takes_in = f.takes_in;
-    how_many = sym (zero-add (length (blocks_in 0 calls))) ∙ f.how_many ∙ ap (λ (t : Tally). t.blocks) f.tallied;
+    how_many = sym (zero-add (length (blocks_taken_in 0 calls))) ∙ f.how_many ∙ ap (λ (t : Counters). t.blocks) f.tallied;
     flag = f.flag;
     elimination = f.elimination new_system sound_new.counts tt (record { hessian = refl; gradient = refl; reduction = refl });
-    weak = record { undamped = λ z. f.weak_zero z ∙ zero-add (weak_in (blocks_in 0 calls)); damped = f.weak_other };
-    further = λ more. subst (Further (after d new_system calls)) (sym (after_append new_system calls more))
-        (from (after d new_system calls) more f.sound).further;
+    weak = record { undamped = λ z. f.weak_zero z ∙ zero-add (weak_in (blocks_taken_in 0 calls)); damped = f.weak_other };
+    further = λ more. subst (IsMonotone (system_after_calls d new_system calls)) (sym (after_append new_system calls more))
+        (from (system_after_calls d new_system calls) more f.sound).further;
   }

@@ -9,42 +9,42 @@ use lib.ListN.{length}
 use lib.Ieee.{Float}
 use Rattle.std.specs.Prelude.{Result, Ok, Err}
 use Rattle.std.specs.Result.{result_and}
-use Rattle.refusal.specs.Answer.{Answer, answer}
-use Rattle.refusal.specs.First.{Checked}
+use Rattle.refusal.specs.Outcome.{Outcome, outcome}
+use Rattle.refusal.specs.FirstRefusal.{CheckResult}
 use Rattle.refusal.specs.declared.Refusal.{Refusal}
 use Rattle.refusal.specs.declared.Refusal.TheVariants.{Damping, WeakCount, Full}
 use Rattle.linearization.specs.Accumulate.{pose_hessian, cross_hessian, point_hessian, pose_gradient, point_gradient}
-use Rattle.point_block.specs.Damping.{good_damping, is_zero}
-use Rattle.point_block.specs.Lone.{factor}
+use Rattle.point_block.specs.Damping.{is_valid_damping, is_zero}
+use Rattle.point_block.specs.FactorWithRcond.{factor}
 use Rattle.point_block.specs.declared.PointBlockFactor.{PointBlockFactor}
 use Rattle.schur.specs.PoseModel.{sum5}
 use Rattle.linearization.specs.Views.{check_views, views_of}
 use Rattle.linearization.specs.declared.views.LinearizedViews.{LinearizedViews}
 use Rattle.linearization.specs.Linearize as Linearize
 use Rattle.linearization.specs.declared.linearize.LocalLinearization.{LocalLinearization}
-use Rattle.schur.specs.Elimination.{reduced_hessian, reduced_gradient}
+use Rattle.schur.specs.SchurComplement.{reduced_hessian, reduced_gradient}
 use Rattle.schur.specs.declared.reduced_system.ReducedSystem.{ReducedSystem}
-use Rattle.schur.specs.Model.{new_system}
-use Rattle.schur.specs.BlockElimination.{not_eliminated, eliminated, eliminate}
-use Rattle.schur.specs.System.{max_blocks, taken_with, taken_by, taken, add, handed_back}
-use Rattle.add_sequences.specs.Calls.{Inputs, made, Call, at_damping, at_refused, added, next, results, after, Tally, start, tally}
+use Rattle.schur.specs.Reduced.{new_system}
+use Rattle.schur.specs.BlockElimination.{unfactored, after_elimination, elimination_of}
+use Rattle.schur.specs.ReducedAdd.{max_blocks, taken_with, taken_by, with_block, add, system_after}
+use Rattle.add_sequences.specs.Calls.{Inputs, linearization_of, Call, Add, RefusedAdd, call_result, system_after_call, call_results, system_after_calls, Counters, zero_counters, count_calls}
 use Rattle.add_sequences.proofs.Claim.{claim}
-use Rattle.c_calls.specs.Answers.{code}
-use Rattle.c_calls.specs.Flat.{block, system}
-use Rattle.c_calls.specs.FlatNumbers.{block_numbers, system_numbers, system_counts}
+use Rattle.c_calls.specs.Outcomes.{code}
+use Rattle.c_calls.specs.Layout.{block, system}
+use Rattle.c_calls.specs.LayoutNumbers.{block_numbers, system_numbers, system_counts}
 use Rattle.c_calls.specs.SystemCalls as Calls
-use Rattle.c_calls.specs.SystemCalls.{SystemMemory, memory, holding, system_answer}
-use Rattle.c_calls.specs.FlatLists.{called, answers, left, tallied, Reaches, EveryListOverC}
+use Rattle.c_calls.specs.SystemCalls.{SystemMemory, system_memory, memory_of, system_outcome}
+use Rattle.c_calls.specs.AddsOverC.{call_outcome, call_outcomes, memory_after_calls, counter_numbers, Reaches, EveryListOverC}
 use Rattle.c_calls.proofs.ReadBack.{Sized, numbers_long, counts_long, system_read, SizedBlock, block_long, block_read}
 
 -- ---- the lengths that blocks and systems have
 
-block_sized : (r : Checked) (v : LinearizedViews) (w : Float) → SizedBlock (Linearize.block_or_zeros (result_and r (Ok (Linearize.block v w))))
-unfolding Linearize.no_block Linearize.block Linearize.sums Linearize.terms pose_hessian cross_hessian point_hessian pose_gradient point_gradient
+block_sized : (r : CheckResult) (v : LinearizedViews) (w : Float) → SizedBlock (Linearize.block_or_zeros (result_and r (Ok (Linearize.block v w))))
+unfolding Linearize.zero_linearization Linearize.block Linearize.sums Linearize.terms pose_hessian cross_hessian point_hessian pose_gradient point_gradient
 block_sized (Ok t) v w = record { pose_hessian = refl; cross_hessian = refl; point_hessian = refl; pose_gradient = refl; point_gradient = refl }
 block_sized (Err r) v w = record { pose_hessian = refl; cross_hessian = refl; point_hessian = refl; pose_gradient = refl; point_gradient = refl }
 
-made_sized : (i : Inputs) → SizedBlock (made i)
+made_sized : (i : Inputs) → SizedBlock (linearization_of i)
 unfolding Linearize.linearize_point Linearize.block_of
 made_sized i = block_sized (check_views i.rig i.correspondence) (views_of i.rig i.correspondence) i.correspondence.inverse_deviation
 
@@ -54,40 +54,40 @@ new_sized = record { hessian = refl; gradient = refl; full_gradient = refl; diag
 
 -- a block taken in, whether it factors or not
 taken_sized : (f : Result PointBlockFactor Refusal) (s : ReducedSystem) (b : LocalLinearization) (d : Float) → Sized s
-    → Sized (taken_by s b (elim f [ Ok g ↦ eliminated s b d g.inverse | Err r ↦ not_eliminated s (is_zero d) ]))
-unfolding taken_with eliminated not_eliminated reduced_hessian reduced_gradient sum5
+    → Sized (taken_by s b (elim f [ Ok g ↦ after_elimination s b d g.inverse | Err r ↦ unfactored s (is_zero d) ]))
+unfolding taken_with after_elimination unfactored reduced_hessian reduced_gradient sum5
 taken_sized (Ok f) s b d k = record { hessian = refl; gradient = refl; full_gradient = refl; diagonal = refl }
 taken_sized (Err r) s b d k = record { hessian = k.hessian; gradient = k.gradient; full_gradient = refl; diagonal = refl }
 
 -- what `add` leaves, by its three tests
 handed_sized : (s t : ReducedSystem) (x y z : Bool) → Sized s → Sized t
-    → Sized (handed_back s (cond x (cond y (cond z (Ok t) (Err Full)) (Err WeakCount)) (Err Damping)))
+    → Sized (system_after s (cond x (cond y (cond z (Ok t) (Err Full)) (Err WeakCount)) (Err Damping)))
 handed_sized s t true true true k l = l
 handed_sized s t true true false k l = k
 handed_sized s t true false z k l = k
 handed_sized s t false y z k l = k
 
-add_sized : (s : ReducedSystem) (b : LocalLinearization) (d : Float) → Sized s → Sized (handed_back s (add s b d))
-unfolding add taken eliminate
+add_sized : (s : ReducedSystem) (b : LocalLinearization) (d : Float) → Sized s → Sized (system_after s (add s b d))
+unfolding add with_block elimination_of
 add_sized s b d k =
-    handed_sized s (taken s b d) (good_damping d) (leb s.weak_point_count s.block_count) (ltb s.block_count max_blocks) k
+    handed_sized s (with_block s b d) (is_valid_damping d) (leb s.weak_point_count s.block_count) (ltb s.block_count max_blocks) k
     (taken_sized (factor b.point_hessian d) s b d k)
 
 -- ---- one call
 
 -- what the call answers on memory that holds s: the answer of `add`, whose memory holds the system
 -- that it leaves
-abbrev held : ReducedSystem → Result ReducedSystem Refusal → Answer SystemMemory
-held s r = record { row = (answer new_system r).row; values = holding (handed_back s r) }
+abbrev held : ReducedSystem → Result ReducedSystem Refusal → Outcome SystemMemory
+held s r = record { row = (outcome new_system r).row; values = memory_of (system_after s r) }
 
 -- a refused add leaves the system, and so what stands there
-add_held : (s : ReducedSystem) (r : Result ReducedSystem Refusal) → system_answer (holding s) r ≡ held s r
+add_held : (s : ReducedSystem) (r : Result ReducedSystem Refusal) → system_outcome (memory_of s) r ≡ held s r
 add_held s (Ok t) = refl
 add_held s (Err e) = refl
 
 -- the lengths fit, and the numbers are those of a system and a block
 add_of : (x : List Float) (counts : List ℕ) (y : List Float) (d : Float) (r : Result ReducedSystem Refusal) → length x ≡ 45 → length counts ≡ 3 → length y ≡ 59
-    → add (system x counts) (block y) d ≡ r → Calls.add x counts y d ≡ system_answer (memory x counts) r
+    → add (system x counts) (block y) d ≡ r → Calls.add x counts y d ≡ system_outcome (system_memory x counts) r
 unfolding Calls.add
 add_of x counts y d r e f g h = rw (e, f, g, h) refl
 
@@ -100,40 +100,40 @@ add_written s b d k l =
 
 -- ---- a list of calls
 
-called_written : (d : Float) (s : ReducedSystem) (c : Call) → Sized s → called d (holding s) c ≡ held s (added d s c)
-called_written d s (at_damping i) k = add_written s (made i) d k (made_sized i)
-called_written d s (at_refused i x h) k = add_written s (made i) x k (made_sized i)
+called_written : (d : Float) (s : ReducedSystem) (c : Call) → Sized s → call_outcome d (memory_of s) c ≡ held s (call_result d s c)
+called_written d s (Add i) k = add_written s (linearization_of i) d k (made_sized i)
+called_written d s (RefusedAdd i x h) k = add_written s (linearization_of i) x k (made_sized i)
 
-next_sized : (d : Float) (s : ReducedSystem) (c : Call) → Sized s → Sized (next d s c)
-next_sized d s (at_damping i) k = add_sized s (made i) d k
-next_sized d s (at_refused i x h) k = add_sized s (made i) x k
+next_sized : (d : Float) (s : ReducedSystem) (c : Call) → Sized s → Sized (system_after_call d s c)
+next_sized d s (Add i) k = add_sized s (linearization_of i) d k
+next_sized d s (RefusedAdd i x h) k = add_sized s (linearization_of i) x k
 
-after_sized : (d : Float) (s : ReducedSystem) (cs : List Call) → Sized s → Sized (after d s cs)
+after_sized : (d : Float) (s : ReducedSystem) (cs : List Call) → Sized s → Sized (system_after_calls d s cs)
 after_sized d s [] k = k
-after_sized d s (c ∷ cs) k = after_sized d (next d s c) cs (next_sized d s c k)
+after_sized d s (c ∷ cs) k = after_sized d (system_after_call d s c) cs (next_sized d s c k)
 
-left_holds : (d : Float) (s : ReducedSystem) (cs : List Call) → Sized s → left d (holding s) cs ≡ holding (after d s cs)
+left_holds : (d : Float) (s : ReducedSystem) (cs : List Call) → Sized s → memory_after_calls d (memory_of s) cs ≡ memory_of (system_after_calls d s cs)
 left_holds d s [] k = refl
 left_holds d s (c ∷ cs) k =
-    ap (λ (a : Answer SystemMemory). left d a.values cs) (called_written d s c k) ∙ left_holds d (next d s c) cs (next_sized d s c k)
+    ap (λ (a : Outcome SystemMemory). memory_after_calls d a.values cs) (called_written d s c k) ∙ left_holds d (system_after_call d s c) cs (next_sized d s c k)
 
 -- the number that comes back of a result
 abbrev code_of : Result ReducedSystem Refusal → ℕ
-code_of r = code (answer new_system r).row
+code_of r = code (outcome new_system r).row
 
 codes_back : (d : Float) (s : ReducedSystem) (cs : List Call) → Sized s
-    → map (λ (a : Answer SystemMemory). code a.row) (answers d (holding s) cs) ≡ map code_of (results d s cs)
+    → map (λ (a : Outcome SystemMemory). code a.row) (call_outcomes d (memory_of s) cs) ≡ map code_of (call_results d s cs)
 codes_back d s [] k = refl
 codes_back d s (c ∷ cs) k =
-    ap (λ (a : Answer SystemMemory). code a.row ∷ map (λ (a : Answer SystemMemory). code a.row) (answers d a.values cs)) (called_written d s c k)
-    ∙ ap (λ (l : List ℕ). code_of (added d s c) ∷ l) (codes_back d (next d s c) cs (next_sized d s c k))
+    ap (λ (a : Outcome SystemMemory). code a.row ∷ map (λ (a : Outcome SystemMemory). code a.row) (call_outcomes d a.values cs)) (called_written d s c k)
+    ∙ ap (λ (l : List ℕ). code_of (call_result d s c) ∷ l) (codes_back d (system_after_call d s c) cs (next_sized d s c k))
 
 new_written : (x : List Float) (counts : List ℕ) → length x ≡ 45 → length counts ≡ 3 → Calls.new_system x counts ≡ held new_system (Ok new_system)
 unfolding Calls.new_system
 new_written x counts e f = rw (e, f) refl
 
 -- the counts of the system that a list reaches, by its tally
-counts_tallied : (s : ReducedSystem) (t : Tally) → s.valid ≡ t.flag → s.block_count ≡ t.blocks → s.weak_point_count ≡ t.weak → system_counts s ≡ tallied t
+counts_tallied : (s : ReducedSystem) (t : Counters) → s.valid ≡ t.flag → s.block_count ≡ t.blocks → s.weak_point_count ≡ t.weak → system_counts s ≡ counter_numbers t
 unfolding system_counts
 counts_tallied s t e f g = rw (e, f, g) refl
 
@@ -145,10 +145,10 @@ begun_reaches d calls =
       begins = refl;
       memory = l;
       codes = codes_back d new_system calls new_sized;
-      read = ap (λ (m : SystemMemory). system m.numbers m.counts) l ∙ system_read (after d new_system calls) (after_sized d new_system calls new_sized);
+      read = ap (λ (m : SystemMemory). system m.numbers m.counts) l ∙ system_read (system_after_calls d new_system calls) (after_sized d new_system calls new_sized);
       counts = λ good.
           let t = (claim d good calls).tallied in
-          ap (λ (m : SystemMemory). m.counts) l ∙ counts_tallied (after d new_system calls) (tally d start calls) t.flag t.blocks t.weak;
+          ap (λ (m : SystemMemory). m.counts) l ∙ counts_tallied (system_after_calls d new_system calls) (count_calls d zero_counters calls) t.flag t.blocks t.weak;
     }
 
 -- ---- the theorem

@@ -12,8 +12,8 @@ use Rattle.linearization.specs.declared.linearize.LocalLinearization.{LocalLinea
 use Rattle.schur.specs.declared.reduced_system.ReducedSystem.{ReducedSystem}
 use Rattle.c_calls.specs.Slices.{part}
 use Rattle.c_calls.proofs.Reading.{From, from_start, from_next, part_from}
-use Rattle.c_calls.specs.Flat.{block, system}
-use Rattle.c_calls.specs.FlatNumbers.{block_numbers, system_numbers, flag, system_counts}
+use Rattle.c_calls.specs.Layout.{block, system}
+use Rattle.c_calls.specs.LayoutNumbers.{block_numbers, system_numbers, flag, system_counts}
 
 -- ---- six lists one after the other
 

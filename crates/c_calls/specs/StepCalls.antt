@@ -1,14 +1,14 @@
 -- What the calls of the whole step and of the limit of a pose step answer, and what the memory that
 -- they may write holds afterwards.
 use Rattle.std.specs.Prelude.{ℕ, ◌≡◌, ◌&&◌, List, [], ◌∷◌, length, Float, Ok}
-use Rattle.refusal.specs.Answer.{Answer, answer}
-use Rattle.refusal.specs.Refused.{map_ok}
+use Rattle.refusal.specs.Outcome.{Outcome, outcome}
+use Rattle.refusal.specs.RefusalRow.{map_ok}
 use Rattle.problem.specs.Problem.{Problem}
 use Rattle.optimizer.specs.PoseStep as PoseStep
 use Rattle.optimizer.specs.Step as Step
 use Rattle.optimizer.specs.declared.step_result.StepResult.{StepResult}
 use Rattle.numerics.specs.Vectors.{◌!◌}
-use Rattle.c_calls.specs.Answers.{code, where_fits, long}
+use Rattle.c_calls.specs.Outcomes.{code, if_lengths_fit, has_length}
 
 -- what it gives, the room apart: twelve numbers and the weak count
 abbrev pub step_numbers : StepResult → List Float
@@ -27,22 +27,22 @@ pub record StepMemory : Type 0 where
 
 -- The number that comes back is the answer's, and the memory holds its values: the step's, and what
 -- it held before where the call is refused.
-pub record Stepped (number : ℕ) (room out : List Float) (weak : List ℕ) (a : Answer StepMemory) : Type 0 where
+pub record HasStepOutcome (number : ℕ) (room out : List Float) (weak : List ℕ) (a : Outcome StepMemory) : Type 0 where
   pub same_number : number ≡ code a.row
   pub same_room : room ≡ a.values.room
   pub same_out : out ≡ a.values.out
   pub same_weak : weak ≡ a.values.weak
 
 -- memory that holds this result, and the step of each point
-abbrev pub holding : Problem → List Float → StepResult → StepMemory
-holding p room s = record { room = Step.written p (Ok s) room; out = step_numbers s; weak = step_count s }
+abbrev pub step_memory : Problem → List Float → StepResult → StepMemory
+step_memory p room s = record { room = Step.point_steps_after p (Ok s) room; out = step_numbers s; weak = step_count s }
 
 -- row 1 where the rig's length or that of the result's memory does not fit, then the step's own
 -- rows or its result
-unfoldable pub step : Problem → List Float → List Float → List Float → List ℕ → Answer StepMemory
+unfoldable pub step : Problem → List Float → List Float → List Float → List ℕ → Outcome StepMemory
 step p x room out weak =
-    answer (record { room = room; out = out; weak = weak })
-    (where_fits (long x 29 && long out 12 && long weak 1) (map_ok (holding p room) (Step.step p (length room))))
+    outcome (record { room = room; out = out; weak = weak })
+    (if_lengths_fit (has_length x 29 && has_length out 12 && has_length weak 1) (map_ok (step_memory p room) (Step.step p (length room))))
 
-unfoldable pub limit_pose_step : List Float → List Float → Answer (List Float)
-limit_pose_step x out = answer out (where_fits (long x 5 && long out 5) (Ok (PoseStep.limit_pose_step x)))
+unfoldable pub limit_pose_step : List Float → List Float → Outcome (List Float)
+limit_pose_step x out = outcome out (if_lengths_fit (has_length x 5 && has_length out 5) (Ok (PoseStep.limit_pose_step x)))

@@ -2,17 +2,17 @@
 // which stays as it was where the call is refused.
 
 ghost use Rattle.std.specs.Prelude.{◌≡◌, length};
-ghost use Rattle.refusal.specs.Answer as Answer;
-ghost use Rattle.refusal.specs.Refused as Refused;
+ghost use Rattle.refusal.specs.Outcome as Outcome;
+ghost use Rattle.refusal.specs.RefusalRow as RefusalRow;
 ghost use Rattle.refusal.specs.declared.Refusal.TheVariants.{Lengths};
-ghost use Rattle.c_calls.specs.Answers as Answers;
+ghost use Rattle.c_calls.specs.Outcomes as Outcomes;
 
 use refusal::Refusal;
 
 // A refusal as one number: number + 256 · view + 65,536 · index
-#[tactic(auto, unfolding(crate::specs::Answers::code))]
+#[tactic(auto, unfolding(crate::specs::Outcomes::code))]
 pub(crate) fn code(refusal: Refusal) -> u64
-    ensures { result ≡ Answers.code (Refused.row refusal) }
+    ensures { result ≡ Outcomes.code (RefusalRow.row refusal) }
 {
     let row = refusal.row();
     row.number as u64 + 256 * (row.view as u64) + 65536 * (row.index as u64)
@@ -20,16 +20,16 @@ pub(crate) fn code(refusal: Refusal) -> u64
 
 // Row 1: the lengths do not fit.
 pub(crate) fn lengths() -> u64
-    ensures { result ≡ Answers.code (Refused.row Lengths) }
+    ensures { result ≡ Outcomes.code (RefusalRow.row Lengths) }
 {
     code(Refusal::Lengths)
 }
 
 // Stores the values where nothing was refused, and answers 0 or the refusal's code.
-#[tactic(auto, unfolding(crate::specs::Answers::code))]
+#[tactic(auto, unfolding(crate::specs::Outcomes::code))]
 pub(crate) fn answer<const N: usize>(answered: Result<[f64; N], Refusal>, out: &mut [f64]) -> u64
     requires { length out.old ≡ N }
-    ensures { Answers.Answered result out.new (Answer.answer out.old answered.entry) }
+    ensures { Outcomes.HasOutcome result out.new (Outcome.outcome out.old answered.entry) }
 {
     match answered {
         Ok(values) => {

@@ -2,7 +2,7 @@
 // moves. A block is 59 numbers. `pixel_step` exports them.
 
 ghost use Rattle.std.specs.Prelude.{◌≡◌};
-ghost use Rattle.c_calls.specs.Answers as Answers;
+ghost use Rattle.c_calls.specs.Outcomes as Outcomes;
 ghost use Rattle.c_calls.specs.PointCalls as Calls;
 
 use crate::{answers, flat, slices};
@@ -14,7 +14,7 @@ use schur::point_step::PointStep;
 /// 2, Jacobian 6
 #[tactic(auto, unfolding(crate::specs::PointCalls::pixel_projection))]
 pub fn pixel_projection(camera: &[f64], observation: &[f64], point: &[f64], out: &mut [f64]) -> u64
-    ensures { Answers.Answered result out.new
+    ensures { Outcomes.HasOutcome result out.new
         (Calls.pixel_projection camera.now observation.now point.now out.old) }
 {
     if camera.len() != 5 || observation.len() != 2 || point.len() != 3 || out.len() != 8 {
@@ -32,7 +32,7 @@ pub fn pixel_projection(camera: &[f64], observation: &[f64], point: &[f64], out:
 /// a block
 #[tactic(auto, unfolding(crate::specs::PointCalls::linearize_point))]
 pub fn linearize_point(rig: &[f64], correspondence: &[f64], out: &mut [f64]) -> u64
-    ensures { Answers.Answered result out.new
+    ensures { Outcomes.HasOutcome result out.new
         (Calls.linearize_point rig.now correspondence.now out.old) }
 {
     if rig.len() != 29 || correspondence.len() != 8 || out.len() != 59 {
@@ -53,7 +53,7 @@ pub fn point_step_with_damping_norm(
     pose_step: &[f64],
     out: &mut [f64],
 ) -> u64
-    ensures { Answers.Answered result out.new
+    ensures { Outcomes.HasOutcome result out.new
         (Calls.point_step block.now damping pose_step.now out.old) }
 {
     if block.len() != 59 || pose_step.len() != 5 || out.len() != 4 {

@@ -3,7 +3,7 @@
 pub(crate) mod numbers;
 
 ghost use Rattle.std.specs.Prelude.{◌≡◌, length};
-ghost use Rattle.c_calls.specs.Flat as Flat;
+ghost use Rattle.c_calls.specs.Layout as Layout;
 
 use crate::slices;
 use linearization::LocalLinearization;
@@ -12,7 +12,7 @@ use projection::PinholeCamera;
 use schur::reduced_system::ReducedSystem;
 
 pub(crate) fn camera(x: [f64; 5]) -> PinholeCamera
-    ensures { result ≡ Flat.camera x }
+    ensures { result ≡ Layout.camera x }
 {
     PinholeCamera {
         fx: x[0],
@@ -24,10 +24,10 @@ pub(crate) fn camera(x: [f64; 5]) -> PinholeCamera
 }
 
 // Camera 1 and 2, then how the second one sits
-#[tactic(auto, unfolding(crate::specs::Flat::rig))]
+#[tactic(auto, unfolding(crate::specs::Layout::rig))]
 pub(crate) fn rig(x: &[f64]) -> Rig
     requires { length x.now ≡ 29 }
-    ensures { result ≡ Flat.rig x.now }
+    ensures { result ≡ Layout.rig x.now }
 {
     Rig {
         camera1: camera(slices::part(x, 0)),
@@ -41,10 +41,10 @@ pub(crate) fn rig(x: &[f64]) -> Rig
     }
 }
 
-#[tactic(auto, unfolding(crate::specs::Flat::correspondence))]
+#[tactic(auto, unfolding(crate::specs::Layout::correspondence))]
 pub(crate) fn correspondence(x: &[f64]) -> Correspondence
     requires { length x.now ≡ 8 }
-    ensures { result ≡ Flat.correspondence x.now }
+    ensures { result ≡ Layout.correspondence x.now }
 {
     Correspondence {
         point: slices::part(x, 0),
@@ -54,10 +54,10 @@ pub(crate) fn correspondence(x: &[f64]) -> Correspondence
     }
 }
 
-#[tactic(auto, unfolding(crate::specs::Flat::block))]
+#[tactic(auto, unfolding(crate::specs::Layout::block))]
 pub(crate) fn block(x: &[f64]) -> LocalLinearization
     requires { length x.now ≡ 59 }
-    ensures { result ≡ Flat.block x.now }
+    ensures { result ≡ Layout.block x.now }
 {
     LocalLinearization {
         pose_hessian: slices::part(x, 0),
@@ -71,10 +71,10 @@ pub(crate) fn block(x: &[f64]) -> LocalLinearization
 }
 
 // The flag is false where it is 0.
-#[tactic(auto, unfolding(crate::specs::Flat::system))]
+#[tactic(auto, unfolding(crate::specs::Layout::system))]
 pub(crate) fn system(x: &[f64], counts: &[u16]) -> ReducedSystem
     requires { (length x.now ≡ 45) × (length counts.now ≡ 3) }
-    ensures { result ≡ Flat.system x.now counts.now }
+    ensures { result ≡ Layout.system x.now counts.now }
 {
     ReducedSystem {
         hessian: slices::part(x, 0),

@@ -2,7 +2,7 @@
 // solve. A matrix is given row by row, an inverse is 6 numbers, packed. `pixel_step` exports them.
 
 ghost use Rattle.std.specs.Prelude.{◌≡◌};
-ghost use Rattle.c_calls.specs.Answers as Answers;
+ghost use Rattle.c_calls.specs.Outcomes as Outcomes;
 ghost use Rattle.c_calls.specs.MatrixCalls as Calls;
 
 use crate::{answers, slices};
@@ -12,7 +12,7 @@ use point_block::{LoneFactor, PointBlockFactor, point_damping};
 /// The diagonal that the damping scales. out: 3
 #[tactic(auto, unfolding(crate::specs::MatrixCalls::damping_diagonal))]
 pub fn damping_diagonal(matrix: &[f64], out: &mut [f64]) -> u64
-    ensures { Answers.Answered result out.new (Calls.damping_diagonal matrix.now out.old) }
+    ensures { Outcomes.HasOutcome result out.new (Calls.damping_diagonal matrix.now out.old) }
 {
     if matrix.len() != 9 || out.len() != 3 {
         return answers::lengths();
@@ -23,7 +23,7 @@ pub fn damping_diagonal(matrix: &[f64], out: &mut [f64]) -> u64
 /// The damped matrix. Tests row 3 before the matrix. out: 9
 #[tactic(auto, unfolding(crate::specs::MatrixCalls::damped_matrix))]
 pub fn damped_matrix(matrix: &[f64], damping: f64, out: &mut [f64]) -> u64
-    ensures { Answers.Answered result out.new (Calls.damped_matrix matrix.now damping out.old) }
+    ensures { Outcomes.HasOutcome result out.new (Calls.damped_matrix matrix.now damping out.old) }
 {
     if matrix.len() != 9 || out.len() != 9 {
         return answers::lengths();
@@ -38,7 +38,7 @@ pub fn damped_matrix(matrix: &[f64], damping: f64, out: &mut [f64]) -> u64
 /// The packed inverse. matrix: damped already; out: 6
 #[tactic(auto, unfolding(crate::specs::MatrixCalls::factor_damped))]
 pub fn factor_damped(matrix: &[f64], out: &mut [f64]) -> u64
-    ensures { Answers.Answered result out.new (Calls.factor_damped matrix.now out.old) }
+    ensures { Outcomes.HasOutcome result out.new (Calls.factor_damped matrix.now out.old) }
 {
     if matrix.len() != 9 || out.len() != 6 {
         return answers::lengths();
@@ -48,9 +48,9 @@ pub fn factor_damped(matrix: &[f64], out: &mut [f64]) -> u64
 }
 
 /// The lone factor. out: inverse 6, rcond
-#[tactic(auto, unfolding(crate::specs::MatrixCalls::lone_factor))]
+#[tactic(auto, unfolding(crate::specs::MatrixCalls::factor_with_rcond))]
 pub fn factor_new(matrix: &[f64], damping: f64, out: &mut [f64]) -> u64
-    ensures { Answers.Answered result out.new (Calls.lone_factor matrix.now damping out.old) }
+    ensures { Outcomes.HasOutcome result out.new (Calls.factor_with_rcond matrix.now damping out.old) }
 {
     if matrix.len() != 9 || out.len() != 7 {
         return answers::lengths();
@@ -62,7 +62,7 @@ pub fn factor_new(matrix: &[f64], damping: f64, out: &mut [f64]) -> u64
 /// The inverse times a vector. inverse: 6; x: 3; out: 3
 #[tactic(auto, unfolding(crate::specs::MatrixCalls::factor_solve))]
 pub fn factor_solve(inverse: &[f64], x: &[f64], out: &mut [f64]) -> u64
-    ensures { Answers.Answered result out.new (Calls.factor_solve inverse.now x.now out.old) }
+    ensures { Outcomes.HasOutcome result out.new (Calls.factor_solve inverse.now x.now out.old) }
 {
     if inverse.len() != 6 || x.len() != 3 || out.len() != 3 {
         return answers::lengths();
@@ -76,7 +76,7 @@ pub fn factor_solve(inverse: &[f64], x: &[f64], out: &mut [f64]) -> u64
 /// The reciprocal condition number. inverse: 6; matrix: 9; out: 1
 #[tactic(auto, unfolding(crate::specs::MatrixCalls::reciprocal_condition_number))]
 pub fn reciprocal_condition_number(inverse: &[f64], matrix: &[f64], out: &mut [f64]) -> u64
-    ensures { Answers.Answered result out.new
+    ensures { Outcomes.HasOutcome result out.new
         (Calls.reciprocal_condition_number inverse.now matrix.now out.old) }
 {
     if inverse.len() != 6 || matrix.len() != 9 || out.len() != 1 {
@@ -92,7 +92,7 @@ pub fn reciprocal_condition_number(inverse: &[f64], matrix: &[f64], out: &mut [f
 /// The solution of five equations. a: 25 numbers, row by row; b: 5; out: 5
 #[tactic(auto, unfolding(crate::specs::MatrixCalls::solve_positive_definite))]
 pub fn solve_positive_definite(a: &[f64], b: &[f64], out: &mut [f64]) -> u64
-    ensures { Answers.Answered result out.new
+    ensures { Outcomes.HasOutcome result out.new
         (Calls.solve_positive_definite a.now b.now out.old) }
 {
     if a.len() != 25 || b.len() != 5 || out.len() != 5 {

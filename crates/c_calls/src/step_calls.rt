@@ -3,8 +3,8 @@
 
 ghost use Rattle.std.specs.Prelude.{◌≡◌};
 ghost use Rattle.problem.specs.Problem as Problems;
-ghost use Rattle.c_calls.specs.Answers as Answers;
-ghost use Rattle.c_calls.specs.Flat as Flat;
+ghost use Rattle.c_calls.specs.Outcomes as Outcomes;
+ghost use Rattle.c_calls.specs.Layout as Layout;
 ghost use Rattle.c_calls.specs.StepCalls as Calls;
 
 use crate::{answers, flat, slices};
@@ -13,7 +13,7 @@ use problem::correspondences::Problem;
 
 /// One whole step. For n points: points and room 3n, views 2n each, inverse deviations n; rig: 29;
 /// out: 12; weak: 1. C hands the lists over one by one.
-#[tactic(auto, unfolding(crate::specs::StepCalls::step, crate::specs::Answers::code))]
+#[tactic(auto, unfolding(crate::specs::StepCalls::step, crate::specs::Outcomes::code))]
 pub fn step<'a>(
     points: &[f64],
     view1: &'a [f64],
@@ -25,8 +25,8 @@ pub fn step<'a>(
     out: &mut [f64],
     weak: &mut [u16],
 ) -> u64
-    ensures { Calls.Stepped result room.new out.new weak.new
-        (Calls.step (Problems.problem points.now view1.now view2.now inverse_deviations.now (Flat.rig rig.now) damping)
+    ensures { Calls.HasStepOutcome result room.new out.new weak.new
+        (Calls.step (Problems.problem points.now view1.now view2.now inverse_deviations.now (Layout.rig rig.now) damping)
         rig.now room.old out.old weak.old) }
 {
     if rig.len() != 29 || out.len() != 12 || weak.len() != 1 {
@@ -52,7 +52,7 @@ pub fn step<'a>(
 /// The limited step. x: 5; out: 5
 #[tactic(auto, unfolding(crate::specs::StepCalls::limit_pose_step))]
 pub fn limit_pose_step(x: &[f64], out: &mut [f64]) -> u64
-    ensures { Answers.Answered result out.new (Calls.limit_pose_step x.now out.old) }
+    ensures { Outcomes.HasOutcome result out.new (Calls.limit_pose_step x.now out.old) }
 {
     if x.len() != 5 || out.len() != 5 {
         return answers::lengths();

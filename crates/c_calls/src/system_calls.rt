@@ -2,8 +2,8 @@
 // block count and the flag. `pixel_step` exports them.
 
 ghost use Rattle.std.specs.Prelude.{[], ◌∷◌, ◌≡◌, length};
-ghost use Rattle.c_calls.specs.Answers as Answers;
-ghost use Rattle.c_calls.specs.FlatNumbers as FlatNumbers;
+ghost use Rattle.c_calls.specs.Outcomes as Outcomes;
+ghost use Rattle.c_calls.specs.LayoutNumbers as LayoutNumbers;
 ghost use Rattle.c_calls.specs.SystemCalls as Calls;
 
 use crate::{answers, flat, slices};
@@ -13,7 +13,7 @@ use schur::reduced_system::ReducedSystem;
 /// A new system in lent memory
 #[tactic(auto, unfolding(crate::specs::SystemCalls::new_system))]
 pub fn system_new(system: &mut [f64], counts: &mut [u16]) -> u64
-    ensures { Calls.Changed result system.new counts.new
+    ensures { Calls.HasSystemOutcome result system.new counts.new
         (Calls.new_system system.old counts.old) }
 {
     if system.len() != 45 || counts.len() != 3 {
@@ -25,7 +25,7 @@ pub fn system_new(system: &mut [f64], counts: &mut [u16]) -> u64
 /// The lent system with a block taken in
 #[tactic(auto, unfolding(crate::specs::SystemCalls::add))]
 pub fn system_add(system: &mut [f64], counts: &mut [u16], block: &[f64], damping: f64) -> u64
-    ensures { Calls.Changed result system.new counts.new
+    ensures { Calls.HasSystemOutcome result system.new counts.new
         (Calls.add system.old counts.old block.now damping) }
 {
     if system.len() != 45 || counts.len() != 3 || block.len() != 59 {
@@ -39,7 +39,7 @@ pub fn system_add(system: &mut [f64], counts: &mut [u16], block: &[f64], damping
 /// The lent system with the damping added to the diagonal of its pose
 #[tactic(auto, unfolding(crate::specs::SystemCalls::finish_damping))]
 pub fn system_finish_damping(system: &mut [f64], counts: &mut [u16], damping: f64) -> u64
-    ensures { Calls.Changed result system.new counts.new
+    ensures { Calls.HasSystemOutcome result system.new counts.new
         (Calls.finish_damping system.old counts.old damping) }
 {
     if system.len() != 45 || counts.len() != 3 {
@@ -51,9 +51,9 @@ pub fn system_finish_damping(system: &mut [f64], counts: &mut [u16], damping: f6
 }
 
 /// Whether every block factored and the equations are finite. out: 0 or 1
-#[tactic(auto, unfolding(crate::specs::SystemCalls::is_valid, crate::specs::Answers::code))]
+#[tactic(auto, unfolding(crate::specs::SystemCalls::is_valid, crate::specs::Outcomes::code))]
 pub fn system_is_valid(system: &[f64], counts: &[u16], out: &mut [u16]) -> u64
-    ensures { Answers.Answered result out.new
+    ensures { Outcomes.HasOutcome result out.new
         (Calls.is_valid system.now counts.now out.old) }
 {
     if system.len() != 45 || counts.len() != 3 || out.len() != 1 {
@@ -67,7 +67,7 @@ pub fn system_is_valid(system: &[f64], counts: &[u16], out: &mut [u16]) -> u64
 /// The largest scaled gradient entry of all points and of the pose. out: 1
 #[tactic(auto, unfolding(crate::specs::SystemCalls::gradient_inf_norm))]
 pub fn system_scaled_gradient_inf_norm(system: &[f64], counts: &[u16], out: &mut [f64]) -> u64
-    ensures { Answers.Answered result out.new
+    ensures { Outcomes.HasOutcome result out.new
         (Calls.gradient_inf_norm system.now counts.now out.old) }
 {
     if system.len() != 45 || counts.len() != 3 || out.len() != 1 {
@@ -87,7 +87,7 @@ pub fn system_predicted_reduction(
     point_damping_norm: f64,
     out: &mut [f64],
 ) -> u64
-    ensures { Answers.Answered result out.new
+    ensures { Outcomes.HasOutcome result out.new
         (Calls.predicted_reduction system.now counts.now step.now damping point_damping_norm out.old) }
 {
     if system.len() != 45 || counts.len() != 3 || step.len() != 5 || out.len() != 1 {
@@ -106,11 +106,11 @@ fn alone(x: f64) -> [f64; 1]
 }
 
 // Stores the system where nothing was refused, and answers 0 or the refusal's code.
-#[tactic(auto, unfolding(crate::specs::Answers::code, crate::specs::FlatNumbers::system_counts))]
+#[tactic(auto, unfolding(crate::specs::Outcomes::code, crate::specs::LayoutNumbers::system_counts))]
 fn answer(answered: Result<ReducedSystem, Refusal>, system: &mut [f64], counts: &mut [u16]) -> u64
     requires { (length system.old ≡ 45) × (length counts.old ≡ 3) }
-    ensures { Calls.Changed result system.new counts.new
-        (Calls.system_answer (Calls.memory system.old counts.old) answered) }
+    ensures { Calls.HasSystemOutcome result system.new counts.new
+        (Calls.system_outcome (Calls.system_memory system.old counts.old) answered) }
 {
     let next = match answered {
         Ok(next) => next,
@@ -122,7 +122,7 @@ fn answer(answered: Result<ReducedSystem, Refusal>, system: &mut [f64], counts: 
 }
 
 fn flag(b: bool) -> u16
-    ensures { result ≡ FlatNumbers.flag b }
+    ensures { result ≡ LayoutNumbers.flag b }
 {
     u16::from(b)
 }

@@ -4,7 +4,7 @@
 
 ghost use Rattle.std.specs.Prelude.{◌≡◌};
 ghost use Rattle.std.specs.Result.{result_err};
-ghost use Rattle.schur.specs.System as System;
+ghost use Rattle.schur.specs.ReducedAdd as ReducedAdd;
 
 use linearization::LocalLinearization;
 use linearization::views::{Correspondence, Pose, Rig};
@@ -90,8 +90,8 @@ fn added_in_place(
     local: LocalLinearization,
     damping: f64,
 ) -> (ReducedSystem, Result<(), Refusal>)
-    ensures system { result.0 ≡ System.handed_back system (System.add system local damping) }
-    ensures refusal { result_err result.1 ≡ result_err (System.add system local damping) }
+    ensures system { result.0 ≡ ReducedAdd.system_after system (ReducedAdd.add system local damping) }
+    ensures refusal { result_err result.1 ≡ result_err (ReducedAdd.add system local damping) }
 {
     let answered = schur::add_to(&mut system, local, damping);
     (system, answered)

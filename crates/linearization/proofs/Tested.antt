@@ -3,23 +3,23 @@ use mathlib.Core.Path.{◌≡◌, refl}
 use mathlib.Core.Bool.{Bool, true, false, ◌&&◌}
 use mathlib.Core.List.{[], ◌∷◌}
 use Rattle.std.specs.Prelude.{is_ok}
-use Rattle.refusal.specs.First.{unless, first_of}
+use Rattle.refusal.specs.FirstRefusal.{refuse_unless, first_refusal}
 use Rattle.refusal.specs.declared.Refusal.{Refusal}
 use Rattle.refusal.specs.declared.View.TheVariants.{First, Second}
 use Rattle.refusal.specs.declared.Refusal.TheVariants.{InverseDeviation, Projection}
-use Rattle.projection.specs.Projection.{pixel_projection}
+use Rattle.projection.specs.PixelProjection.{pixel_projection}
 use Rattle.linearization.specs.declared.views.Rig.{Rig}
 use Rattle.linearization.specs.declared.views.Correspondence.{Correspondence}
-use Rattle.linearization.specs.Views.{good_deviation, moved, check_views}
+use Rattle.linearization.specs.Views.{is_valid_inverse_standard_deviation, point_in_camera2, check_views}
 
 -- three checks let through what all three tests do
-all_pass : (a b c : Bool) (x y z : Refusal) → (a && b && c) ≡ is_ok (first_of (unless a x ∷ unless b y ∷ unless c z ∷ []))
+all_pass : (a b c : Bool) (x y z : Refusal) → (a && b && c) ≡ is_ok (first_refusal (refuse_unless a x ∷ refuse_unless b y ∷ refuse_unless c z ∷ []))
 all_pass true true true x y z = refl
 all_pass true true false x y z = refl
 all_pass true false c x y z = refl
 all_pass false b c x y z = refl
 
 pub accepted_is : (rig : Rig) (c : Correspondence)
-    → (good_deviation c.inverse_deviation && is_ok (pixel_projection rig.camera1 c.view1 c.point) && is_ok (pixel_projection rig.camera2 c.view2 (moved rig c))) ≡ is_ok (check_views rig c)
+    → (is_valid_inverse_standard_deviation c.inverse_deviation && is_ok (pixel_projection rig.camera1 c.view1 c.point) && is_ok (pixel_projection rig.camera2 c.view2 (point_in_camera2 rig c))) ≡ is_ok (check_views rig c)
 unfolding check_views
 accepted_is rig c = all_pass _ _ _ (InverseDeviation 0) (Projection First 0) (Projection Second 0)

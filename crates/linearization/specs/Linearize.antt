@@ -4,7 +4,7 @@ use Rattle.std.specs.Prelude.{List, Float, Result, Ok, is_ok}
 use Rattle.std.specs.Result.{result_and}
 use Rattle.numerics.specs.Binary64.{◌⊕◌, ◌⊗◌, zero}
 use Rattle.numerics.specs.Vectors.{tabulate, zeros}
-use Rattle.refusal.specs.Answer.{answer}
+use Rattle.refusal.specs.Outcome.{outcome}
 use Rattle.refusal.specs.declared.Refusal.{Refusal}
 use Rattle.linearization.specs.declared.linearize.LocalLinearization.{LocalLinearization}
 use Rattle.linearization.specs.declared.linearize.TestedBlock.{TestedBlock}
@@ -19,8 +19,8 @@ use Rattle.linearization.specs.Views.{views_of, check_views}
 use Rattle.linearization.specs.Accumulate.{pose_hessian, cross_hessian, point_hessian, pose_gradient, point_gradient}
 
 -- +0 everywhere: what stands for the block of a refused point
-unfoldable pub no_block : LocalLinearization
-no_block = record {
+unfoldable pub zero_linearization : LocalLinearization
+zero_linearization = record {
   pose_hessian = zeros 25;
   cross_hessian = zeros 15;
   point_hessian = zeros 9;
@@ -32,7 +32,7 @@ no_block = record {
 
 -- the block that was made, or +0 everywhere beside a refusal: the values of the answer
 abbrev pub block_or_zeros : Result LocalLinearization Refusal → LocalLinearization
-block_or_zeros r = (answer no_block r).values
+block_or_zeros r = (outcome zero_linearization r).values
 
 -- the pose's ten derivatives in view 1
 abbrev pub pose_rows : View1 → List Float

@@ -3,7 +3,7 @@
 
 // The block maker: what one point adds to the system.
 ghost use Rattle.std.specs.Prelude.{◌≡◌};
-ghost use Rattle.refusal.specs.Answer.{answer};
+ghost use Rattle.refusal.specs.Outcome.{outcome};
 ghost use Rattle.linearization.specs.Linearize as Linearize;
 
 use crate::terms::PointTerms;
@@ -37,8 +37,8 @@ pub fn linearize_point(
     correspondence: Correspondence,
 ) -> Result<LocalLinearization, Refusal>
     ensures result { result ≡ Linearize.linearize_point rig.now correspondence }
-    ensures answer { answer Linearize.no_block result
-        ≡ answer Linearize.no_block (Linearize.linearize_point rig.now correspondence) }
+    ensures outcome { outcome Linearize.zero_linearization result
+        ≡ outcome Linearize.zero_linearization (Linearize.linearize_point rig.now correspondence) }
 {
     let TestedBlock { block, accepted } = tested_block(rig, correspondence);
     if !accepted {

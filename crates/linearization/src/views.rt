@@ -138,10 +138,10 @@ pub(crate) fn check_views(rig: &Rig, correspondence: Correspondence) -> Result<(
 }
 
 /// Row 4 lets an inverse deviation through that is finite and above 0.
-#[tactic(auto, unfolding(crate::specs::Views::good_deviation))]
+#[tactic(auto, unfolding(crate::specs::Views::is_valid_inverse_standard_deviation))]
 #[inline(always)]
 pub fn good_deviation(x: f64) -> bool
-    ensures { result ≡ Views.good_deviation x }
+    ensures { result ≡ Views.is_valid_inverse_standard_deviation x }
 {
     numerics::is_finite(x) & !(x <= 0.0)
 }
@@ -170,18 +170,18 @@ fn weighted_views(
     }
 }
 
-#[tactic(auto, unfolding(crate::specs::Views::first_rows))]
+#[tactic(auto, unfolding(crate::specs::Views::weighted_view1))]
 #[inline(always)]
 fn first_rows(first: Projected, pose: &Pose, weight: f64) -> View1
-    ensures { result ≡ Views.first_rows first pose.now weight }
+    ensures { result ≡ Views.weighted_view1 first pose.now weight }
 {
     first_view(first.residual, first.jacobian, pose.baseline, weight)
 }
 
-#[tactic(auto, unfolding(crate::specs::Views::second_rows))]
+#[tactic(auto, unfolding(crate::specs::Views::weighted_view2))]
 #[inline(always)]
 fn second_rows(second: Projected, rotated: [f64; 3], pose: &Pose, weight: f64) -> View2
-    ensures { result ≡ Views.second_rows second rotated pose.now weight }
+    ensures { result ≡ Views.weighted_view2 second rotated pose.now weight }
 {
     let motion = jacobians::pose_motion_jacobian(rotated, pose.basis, pose.baseline);
     let by_pose = jacobians::pose_jacobian(second.jacobian, motion);
@@ -218,7 +218,7 @@ fn second_view(residual: [f64; 2], by_pose: [f64; 10], by_point: [f64; 6], weigh
 // Each number times the weight
 #[inline(always)]
 fn weigh<const N: usize>(numbers: [f64; N], weight: f64) -> [f64; N]
-    ensures { result ≡ Views.weighted N weight numbers.entry }
+    ensures { result ≡ Views.weighted_entries N weight numbers.entry }
 {
     array::from_fn(
         |i|

@@ -7,10 +7,10 @@ use lib.Dec.{T, ltb, eqb}
 use lib.Ieee.{Float, nan, inf, fin, Format, prec, emax, low, up, down, unlike, odd, units, round, neg, mul, lt, fits, is_nan}
 use lib.Ieee.Fits.{round_is}
 use Rattle.std.proofs.lemmas.Bool.Decides.{nat_tests}
-use Rattle.numerics.specs.Parts.{is_finite, negative, nonneg, abs}
+use Rattle.numerics.specs.Classify.{is_finite, negative, is_nonnegative, abs}
 
-pub nonneg_abs : (x : Float) → T (not (is_nan x)) → T (nonneg (abs x))
-unfolding nonneg abs is_nan
+pub nonneg_abs : (x : Float) → T (not (is_nan x)) → T (is_nonnegative (abs x))
+unfolding is_nonnegative abs is_nan
 nonneg_abs nan p = p
 nonneg_abs (inf s) p = tt
 nonneg_abs (fin s m e) p = tt

@@ -11,7 +11,7 @@ use lib.Dec.{T}
 use lib.Ieee.{Float, nan, inf, fin, Format, up, down, neg, sub, lt, fits, of_bits}
 use lib.Ieee.Fits.{down_pos, neg-fits}
 use Rattle.std.specs.Float.{float_is_finite}
-use Rattle.numerics.specs.Parts.{is_finite, abs}
+use Rattle.numerics.specs.Classify.{is_finite, abs}
 use Rattle.numerics.proofs.Values.{zero_is, round_value}
 
 -- ---- the absolute value

@@ -12,8 +12,8 @@ use lib.Ieee.Fits.{and_l, and_r, down_pos}
 use Rattle.std.specs.Bool.{beq}
 use Rattle.std.proofs.lemmas.Bool.{false_from_ne_true}
 use Rattle.std.proofs.lemmas.Float.{le_left, le_right, le_of_lt, le_of_eq, eq_flip, eq-not_lt}
-use Rattle.numerics.specs.Parts.{negative}
-use Rattle.numerics.specs.Extrema.{max, min, Picked, IsMaximum, IsMinimum}
+use Rattle.numerics.specs.Classify.{negative}
+use Rattle.numerics.specs.Extrema.{max, min, PicksOperand, IsMaximum, IsMinimum}
 use Rattle.numerics.proofs.Values.{same_value}
 use Rattle.numerics.proofs.Order.{lt_one_way}
 use Rattle.numerics.proofs.Specials.{nan_of_is_nan}
@@ -123,7 +123,7 @@ module _ (f : Format) (ahead : Float → Float → Bool) (strict : Strict ahead)
       decide false false false e (fails (ahead x y) (is_nan x) (strict.first_number x y) k)
       (fails (eq x y) (is_nan x) (λ h. le_left x y (le_of_eq x y h)) k)
 
-  picked : Picked ahead (fin wanted 0 (pos 0)) x y r
+  picked : PicksOperand ahead (fin wanted 0 (pos 0)) x y r
   picked = record {
     first_nan = λ k. passed_over (is_nan y) refl (is_true (is_nan x) k);
     second_nan = λ k. decide true _ _ (is_true (is_nan y) k) refl refl;

@@ -10,7 +10,7 @@ use lib.Ieee.{Float, nan, inf, fin, Format, unlike, up, down, add, mul, eq, neg,
 use lib.Ieee.Bits.{is_true}
 use lib.Ieee.Fits.{down_pos}
 use Rattle.std.specs.Prelude.{fold}
-use Rattle.numerics.specs.Parts.{is_finite}
+use Rattle.numerics.specs.Classify.{is_finite}
 use Rattle.numerics.specs.Vectors.{all_finite}
 use Rattle.numerics.proofs.Values.{zero_is, round_zero}
 

@@ -14,13 +14,13 @@ use lib.Ieee.Order.{round_mono}
 pub use Rattle.std.proofs.lemmas.Float.{le_trans}
 use Rattle.std.proofs.lemmas.Float.{le_of_not-lt}
 use Rattle.numerics.specs.Binary64.{◌⊕◌, ◌⊗◌, half, neg_zero}
-use Rattle.numerics.specs.Parts.{is_finite, nonneg}
+use Rattle.numerics.specs.Classify.{is_finite, is_nonnegative}
 use Rattle.numerics.proofs.Values.{round_value, round_zero}
 use Rattle.numerics.proofs.Order.{nonneg_above, nonneg_mul_positive}
 
 -- +0 is at most any value clear of the sign
-zero_first : (e : ℤ) (x : Float) → T (nonneg x) → T (le (fin false 0 e) x)
-unfolding nonneg le is_nan
+zero_first : (e : ℤ) (x : Float) → T (is_nonnegative x) → T (le (fin false 0 e) x)
+unfolding is_nonnegative le is_nan
 zero_first e nan h = absurd h
 zero_first e (inf true) h = absurd h
 zero_first e (inf false) h = tt
@@ -28,7 +28,7 @@ zero_first e (fin true n d) h = absurd h
 zero_first e (fin false n d) h =
     le_of_not-lt (fin false n d) (fin false 0 e) tt tt (rw (zero-mul (up e), zero-mul (down d), le-ltb (n * up d * down e) 0 (omega arith)) tt)
 
-pub zero-le : (x : Float) → T (nonneg x) → T (le (of_bits binary64 0) x)
+pub zero-le : (x : Float) → T (is_nonnegative x) → T (le (of_bits binary64 0) x)
 unfolding of_bits
 zero-le x h = zero_first _ x h
 
@@ -37,8 +37,8 @@ zero-le x h = zero_first _ x h
 grows : (a b x y : ℕ) → a * (x * y) ≤ (a * y + b) * x
 grows a b x y = le-trans· (le_of_eq (sym (mul_assoc a x y) ∙ mul_right_comm a x y)) (mul-le-mul_right x (le-add_right (a * y) b))
 
-pub le_add : (f : Format) (x y : Float) → T (fits f x) → T (nonneg x) → T (nonneg y) → T (le x (add f x y))
-unfolding nonneg add le
+pub le_add : (f : Format) (x y : Float) → T (fits f x) → T (is_nonnegative x) → T (is_nonnegative y) → T (le x (add f x y))
+unfolding is_nonnegative add le
 le_add f nan y p h k = absurd h
 le_add f (inf true) y p h k = absurd h
 le_add f (inf false) nan p h k = absurd k
@@ -58,8 +58,8 @@ le_add f (fin false m e) (fin false n d) p h k =
 
 -- ---- a product with a weight, which is finite and above zero
 
-nonneg_mul_right : (f : Format) (x : Float) (n : ℕ) (d : ℤ) → T (nonneg x) → T (nonneg (mul f x (fin false (suc n) d)))
-unfolding mul nonneg
+nonneg_mul_right : (f : Format) (x : Float) (n : ℕ) (d : ℤ) → T (is_nonnegative x) → T (is_nonnegative (mul f x (fin false (suc n) d)))
+unfolding mul is_nonnegative
 nonneg_mul_right f nan n d h = h
 nonneg_mul_right f (inf true) n d h = absurd h
 nonneg_mul_right f (inf false) n d h = rw (eqb-suc-zero n) tt
@@ -68,8 +68,8 @@ nonneg_mul_right f (fin false m e) n d h =
     rw (mul_comm (m * up e) (suc n * up d), mul_comm (down e) (down d)) (nonneg_mul_positive f n d (fin false m e) tt)
 
 -- a weight lies above some z that is clear of the sign
-nonneg_mul_above : (f : Format) (x w z : Float) → T (nonneg x) → T (nonneg z) → T (is_finite w) → T (lt z w) → T (nonneg (mul f x w))
-unfolding nonneg is_finite lt
+nonneg_mul_above : (f : Format) (x w z : Float) → T (is_nonnegative x) → T (is_nonnegative z) → T (is_finite w) → T (lt z w) → T (is_nonnegative (mul f x w))
+unfolding is_nonnegative is_finite lt
 nonneg_mul_above f x nan z h k p l = absurd p
 nonneg_mul_above f x (inf t) z h k p l = absurd p
 nonneg_mul_above f x (fin true n d) z h k p l = absurd (nonneg_above z (fin true n d) k l)
@@ -81,12 +81,12 @@ nonneg_mul_above f x (fin false zero d) (fin true m e) h k p l = absurd k
 nonneg_mul_above f x (fin false zero d) (fin false m e) h k p l =
     let q = ltb→lt (m * up e * down d) (0 * up d * down e) l in absurd (omega (arith, rw (zero-mul (up d), zero-mul (down e)) at q))
 
-pub nonneg_zero : (f : Format) → T (nonneg (of_bits f 0))
-unfolding nonneg of_bits
+pub nonneg_zero : (f : Format) → T (is_nonnegative (of_bits f 0))
+unfolding is_nonnegative of_bits
 nonneg_zero binary32 = tt
 nonneg_zero binary64 = tt
 
-pub nonneg_mul_weight : (f : Format) (x w : Float) → T (nonneg x) → T (is_finite w) → T (lt (of_bits f 0) w) → T (nonneg (mul f x w))
+pub nonneg_mul_weight : (f : Format) (x w : Float) → T (is_nonnegative x) → T (is_finite w) → T (lt (of_bits f 0) w) → T (is_nonnegative (mul f x w))
 nonneg_mul_weight f x w h p l = nonneg_mul_above f x w (of_bits f 0) h (nonneg_zero f) p l
 
 -- ---- c * x * x for a c that is finite and above zero: where x is 0 so is c * x, and where x is infinite so is c * x
@@ -95,8 +95,8 @@ pub times_zero : (f : Format) (m : ℕ) (e d : ℤ) → mul f (fin false m e) (f
 unfolding mul
 times_zero f m e d = rw (zero-mul (up d), mul-zero (m * up e)) (round_zero f false (down e * down d) (mul-pos (down_pos e) (down_pos d)))
 
-pub nonneg_scaled_square : (f : Format) (m : ℕ) (e : ℤ) (x : Float) → T (nonneg x) → T (nonneg (mul f (mul f (fin false (suc m) e) x) x))
-unfolding mul nonneg
+pub nonneg_scaled_square : (f : Format) (m : ℕ) (e : ℤ) (x : Float) → T (is_nonnegative x) → T (is_nonnegative (mul f (mul f (fin false (suc m) e) x) x))
+unfolding mul is_nonnegative
 nonneg_scaled_square f m e nan h = h
 nonneg_scaled_square f m e (inf true) h = absurd h
 nonneg_scaled_square f m e (inf false) h = rw (eqb-suc-zero m) tt
@@ -104,7 +104,7 @@ nonneg_scaled_square f m e (fin true n d) h = absurd h
 nonneg_scaled_square f m e (fin false zero d) h = rw (times_zero f (suc m) e d, times_zero f 0 (pos 0) d) tt
 nonneg_scaled_square f m e (fin false (suc n) d) h = nonneg_mul_right f (mul f (fin false (suc m) e) (fin false (suc n) d)) n d (nonneg_mul_positive f m e (fin false (suc n) d) h)
 
-pub nonneg_half_square : (r : Float) → T (nonneg r) → T (nonneg (half ⊗ r ⊗ r))
+pub nonneg_half_square : (r : Float) → T (is_nonnegative r) → T (is_nonnegative (half ⊗ r ⊗ r))
 unfolding of_bits
 nonneg_half_square r h = nonneg_scaled_square binary64 0 (negsuc 0) r h
 

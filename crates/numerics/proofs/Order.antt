@@ -12,8 +12,8 @@ use lib.Ieee.Fits.{round_is}
 pub use Rattle.std.proofs.lemmas.Float.{le_refl}
 use Rattle.std.proofs.lemmas.Bool.{false_from_ne_true}
 use Rattle.std.proofs.lemmas.Float.{lt_irrefl, lt_trans, lt_of_lt_of_le, le_of_not-lt}
-use Rattle.numerics.specs.Binary64.{◌⊗◌, epsilon64, recip}
-use Rattle.numerics.specs.Parts.{is_finite, negative, nonneg}
+use Rattle.numerics.specs.Binary64.{◌⊗◌, relative_tolerance, recip}
+use Rattle.numerics.specs.Classify.{is_finite, negative, is_nonnegative}
 
 -- ---- the order of values
 
@@ -31,24 +31,24 @@ lt_one_way x y h = false_from_ne_true (lt y x) (λ k. lt_irrefl x (lt_trans x y 
 
 -- ---- values clear of the sign
 
-pub nonneg_not_nan : (x : Float) → T (nonneg x) → T (not (is_nan x))
-unfolding nonneg is_nan
+pub nonneg_not_nan : (x : Float) → T (is_nonnegative x) → T (not (is_nan x))
+unfolding is_nonnegative is_nan
 nonneg_not_nan nan h = h
 nonneg_not_nan (inf s) h = tt
 nonneg_not_nan (fin s m e) h = tt
 
-pub nonneg_is : (x : Float) → T (not (is_nan x)) → nonneg x ≡ not (negative x)
-unfolding nonneg negative is_nan
+pub nonneg_is : (x : Float) → T (not (is_nan x)) → is_nonnegative x ≡ not (negative x)
+unfolding is_nonnegative negative is_nan
 nonneg_is nan p = absurd p
 nonneg_is (inf s) p = refl
 nonneg_is (fin s m e) p = refl
 
-pub not_negative : (x : Float) → T (nonneg x) → negative x ≡ false
+pub not_negative : (x : Float) → T (is_nonnegative x) → negative x ≡ false
 not_negative x h = is_false (negative x) (subst T (nonneg_is x (nonneg_not_nan x h)) h)
 
 -- what lies above such a value is one too
-pub nonneg_above : (x y : Float) → T (nonneg x) → T (lt x y) → T (nonneg y)
-unfolding nonneg lt
+pub nonneg_above : (x y : Float) → T (is_nonnegative x) → T (lt x y) → T (is_nonnegative y)
+unfolding is_nonnegative lt
 nonneg_above nan y h k = absurd h
 nonneg_above (inf true) y h k = absurd h
 nonneg_above (inf false) nan h k = k
@@ -62,26 +62,26 @@ nonneg_above (fin false m e) (fin false n d) h k = tt
 
 -- ---- what is rounded
 
-nonneg_odd : (d q k l : ℕ) → T (nonneg (odd d false q k l))
-unfolding odd nonneg
+nonneg_odd : (d q k l : ℕ) → T (is_nonnegative (odd d false q k l))
+unfolding odd is_nonnegative
 nonneg_odd d zero k l = tt
 nonneg_odd d (suc q) k l = tt
 
-pub nonneg_units : (f : Format) (q k : ℕ) → T (nonneg (units f false q k))
-unfolding units nonneg
+pub nonneg_units : (f : Format) (q k : ℕ) → T (is_nonnegative (units f false q k))
+unfolding units is_nonnegative
 nonneg_units f q k = by (ltb (q * 2 ^ k) (2 ^ (low f + suc (emax f))))
   where
-    by : (t : Bool) → T (nonneg (cond t (odd (suc (prec f)) false q k (low f)) (inf false)))
+    by : (t : Bool) → T (is_nonnegative (cond t (odd (suc (prec f)) false q k (low f)) (inf false)))
     by true = nonneg_odd (suc (prec f)) q k (low f)
     by false = tt
 
 -- ---- sums and products
 
-nonneg_round : (f : Format) (a c : ℕ) → T (nonneg (round f false a c))
+nonneg_round : (f : Format) (a c : ℕ) → T (is_nonnegative (round f false a c))
 nonneg_round f a c = rw (round_is f false a c) (nonneg_units f _ _)
 
-pub nonneg_add : (f : Format) (x y : Float) → T (nonneg x) → T (nonneg y) → T (nonneg (add f x y))
-unfolding add nonneg
+pub nonneg_add : (f : Format) (x y : Float) → T (is_nonnegative x) → T (is_nonnegative y) → T (is_nonnegative (add f x y))
+unfolding add is_nonnegative
 nonneg_add f nan y h k = absurd h
 nonneg_add f (inf true) y h k = absurd h
 nonneg_add f (inf false) nan h k = absurd k
@@ -98,15 +98,15 @@ unlike_self : (s : Bool) → unlike s s ≡ false
 unlike_self true = refl
 unlike_self false = refl
 
-pub nonneg_square : (f : Format) (x : Float) → T (not (is_nan x)) → T (nonneg (mul f x x))
-unfolding mul nonneg is_nan
+pub nonneg_square : (f : Format) (x : Float) → T (not (is_nan x)) → T (is_nonnegative (mul f x x))
+unfolding mul is_nonnegative is_nan
 nonneg_square f nan p = absurd p
 nonneg_square f (inf s) p = rw (unlike_self s) tt
 nonneg_square f (fin s m e) p = rw (unlike_self s) (nonneg_round f _ _)
 
 -- a factor that is finite and above zero never makes a NaN
-pub nonneg_mul_positive : (f : Format) (m : ℕ) (e : ℤ) (y : Float) → T (nonneg y) → T (nonneg (mul f (fin false (suc m) e) y))
-unfolding mul nonneg
+pub nonneg_mul_positive : (f : Format) (m : ℕ) (e : ℤ) (y : Float) → T (is_nonnegative y) → T (is_nonnegative (mul f (fin false (suc m) e) y))
+unfolding mul is_nonnegative
 nonneg_mul_positive f m e nan h = h
 nonneg_mul_positive f m e (inf true) h = absurd h
 nonneg_mul_positive f m e (inf false) h = rw (eqb-suc-zero m) tt
@@ -114,17 +114,17 @@ nonneg_mul_positive f m e (fin true n d) h = absurd h
 nonneg_mul_positive f m e (fin false n d) h = nonneg_round f _ _
 
 -- 64ε times a largest entry
-pub nonneg_floor : (y : Float) → T (nonneg y) → T (nonneg (epsilon64 ⊗ y))
+pub nonneg_floor : (y : Float) → T (is_nonnegative y) → T (is_nonnegative (relative_tolerance ⊗ y))
 unfolding of_bits
 nonneg_floor y h = nonneg_mul_positive binary64 0 (negsuc 45) y h
 
-pub nonneg_recip : (x : Float) → T (is_finite x) → T (nonneg x) → T (nonneg (recip x))
-unfolding is_finite nonneg div of_bits
+pub nonneg_recip : (x : Float) → T (is_finite x) → T (is_nonnegative x) → T (is_nonnegative (recip x))
+unfolding is_finite is_nonnegative div of_bits
 nonneg_recip nan f h = absurd h
 nonneg_recip (inf s) f h = absurd f
 nonneg_recip (fin true m e) f h = absurd h
 nonneg_recip (fin false m e) f h = by (eqb m 0)
   where
-    by : (b : Bool) → T (nonneg (cond b (inf false) (round binary64 false (1 * down e) (m * up e * 1))))
+    by : (b : Bool) → T (is_nonnegative (cond b (inf false) (round binary64 false (1 * down e) (m * up e * 1))))
     by true = tt
     by false = nonneg_round binary64 (1 * down e) (m * up e * 1)

@@ -4,7 +4,7 @@ use mathlib.Core.Bool.{Bool, true, false, not, ◌&&◌, ◌||◌, cond}
 use lib.Dec.{T}
 use lib.Ieee.{Float, nan, inf, fin, eq, is_nan}
 use Rattle.std.specs.Float.{is_sign_negative}
-use Rattle.numerics.specs.Parts.{negative}
+use Rattle.numerics.specs.Classify.{negative}
 
 -- the sign as std has it
 pub sign_is : (x : Float) → is_sign_negative x ≡ negative x

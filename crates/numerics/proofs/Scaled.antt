@@ -16,10 +16,10 @@ use lib.Ieee.Order.{round_mono}
 use Rattle.std.specs.Prelude.{fold}
 use Rattle.std.proofs.lemmas.Bool.{false_from_ne_true}
 use Rattle.std.proofs.lemmas.Float.{le_right, le_of_lt, lt_irrefl, lt_of_le_of_lt, lt_of_lt_of_le}
-use Rattle.numerics.specs.Binary64.{◌⊗◌, zero as zero·, epsilon64}
-use Rattle.numerics.specs.Parts.{negative, nonneg, abs}
+use Rattle.numerics.specs.Binary64.{◌⊗◌, zero as zero·, relative_tolerance}
+use Rattle.numerics.specs.Classify.{negative, is_nonnegative, abs}
 use Rattle.numerics.specs.Vectors.{all_finite}
-use Rattle.numerics.specs.Extrema.{max, largest}
+use Rattle.numerics.specs.Extrema.{max, fold_max}
 use Rattle.numerics.proofs.Values.{round_value}
 use Rattle.numerics.proofs.Order.{lt_one_way, nonneg_not_nan, nonneg_mul_positive}
 use Rattle.numerics.proofs.Monotone.{finite_not_nan, nonneg_zero, times_zero}
@@ -41,8 +41,8 @@ module _ (f : Format) (m : ℕ) (e : ℤ) where
   abbrev scaled : Float → Float
   scaled x = mul f (fin false (suc m) e) x
 
-  mul_le_mul : (x y : Float) → T (nonneg x) → T (nonneg y) → lt y x ≡ false → T (le (scaled x) (scaled y))
-  unfolding nonneg mul lt
+  mul_le_mul : (x y : Float) → T (is_nonnegative x) → T (is_nonnegative y) → lt y x ≡ false → T (le (scaled x) (scaled y))
+  unfolding is_nonnegative mul lt
   mul_le_mul nan y p q h = absurd p
   mul_le_mul (inf true) y p q h = absurd p
   mul_le_mul (inf false) nan p q h = absurd q
@@ -64,7 +64,7 @@ module _ (f : Format) (m : ℕ) (e : ℤ) where
   abs_scaled x = abs_mul f (fin false (suc m) e) x
 
   -- that of the larger of two is below z where those of both are
-  scaled_max : (x y z : Float) → T (nonneg x) → T (nonneg y) → lt (scaled (max x y)) z ≡ (lt (scaled x) z && lt (scaled y) z)
+  scaled_max : (x y z : Float) → T (is_nonnegative x) → T (is_nonnegative y) → lt (scaled (max x y)) z ≡ (lt (scaled x) z && lt (scaled y) z)
   scaled_max x y z p q = rw (max_select x y p) (by (lt x y) refl)
     where
       second : (s t : Bool) → (T t → T s) → t ≡ (s && t)
@@ -82,7 +82,7 @@ module _ (f : Format) (m : ℕ) (e : ℤ) where
       by false h = first _ _ (λ k. lt_of_le_of_lt _ _ z (mul_le_mul y x q p h) k)
 
   -- and that of the largest of a list, where those of all are
-  scaled_largest : (z low : Float) (xs : List Float) → T (nonneg low) → T (all_finite xs)
+  scaled_largest : (z low : Float) (xs : List Float) → T (is_nonnegative low) → T (all_finite xs)
       → lt (scaled (fold max low (map abs xs))) z ≡ fold (λ g x. g && lt (abs (scaled x)) z) (lt (scaled low) z) xs
   unfolding all_finite
   scaled_largest z low [] p h = refl
@@ -94,8 +94,8 @@ module _ (f : Format) (m : ℕ) (e : ℤ) where
   -- ---- by a factor of at most 1
 
   module _ (at_most_one : suc m * up e ≤ down e) where
-    mul_le : (x : Float) → T (fits f x) → T (nonneg x) → T (le (scaled x) x)
-    unfolding nonneg mul
+    mul_le : (x : Float) → T (fits f x) → T (is_nonnegative x) → T (le (scaled x) x)
+    unfolding is_nonnegative mul
     mul_le nan p q = absurd q
     mul_le (inf true) p q = absurd q
     mul_le (inf false) p q = rw (eqb-suc-zero m) (le_top (inf false) (unfold is_nan in tt))
@@ -123,12 +123,12 @@ module _ (f : Format) (m : ℕ) (e : ℤ) where
 -- ---- by 64ε
 
 -- the floor of a scale is below z
-pub floor_below : (z : Float) (xs : List Float) → T (all_finite xs) → lt (epsilon64 ⊗ largest (map abs xs)) z ≡ fold (λ g x. g && lt (abs (epsilon64 ⊗ x)) z) (lt zero· z) xs
+pub floor_below : (z : Float) (xs : List Float) → T (all_finite xs) → lt (relative_tolerance ⊗ fold_max (map abs xs)) z ≡ fold (λ g x. g && lt (abs (relative_tolerance ⊗ x)) z) (lt zero· z) xs
 unfolding of_bits
 floor_below z xs h =
     scaled_largest binary64 0 (negsuc 45) z zero· xs (nonneg_zero binary64) h
-    ∙ ap (λ (x : Float). fold (λ g x. g && lt (abs (epsilon64 ⊗ x)) z) (lt x z) xs) (times_zero binary64 1 (negsuc 45) (pos 0))
+    ∙ ap (λ (x : Float). fold (λ g x. g && lt (abs (relative_tolerance ⊗ x)) z) (lt x z) xs) (times_zero binary64 1 (negsuc 45) (pos 0))
 
-pub floor_below_itself : (x : Float) → T (fits binary64 x) → lt (abs (epsilon64 ⊗ x)) x ≡ lt (epsilon64 ⊗ x) x
+pub floor_below_itself : (x : Float) → T (fits binary64 x) → lt (abs (relative_tolerance ⊗ x)) x ≡ lt (relative_tolerance ⊗ x) x
 unfolding of_bits
 floor_below_itself x p = scaled_below binary64 0 (negsuc 45) (omega arith) x p

@@ -32,11 +32,11 @@ abbrev pub one : Float
 one = of_bits binary64 0x3ff0_0000_0000_0000
 
 -- 64ε and 192ε
-abbrev pub epsilon64 : Float
-epsilon64 = of_bits binary64 0x3d10_0000_0000_0000
+abbrev pub relative_tolerance : Float
+relative_tolerance = of_bits binary64 0x3d10_0000_0000_0000
 
-abbrev pub epsilon192 : Float
-epsilon192 = of_bits binary64 0x3d28_0000_0000_0000
+abbrev pub point_block_rcond_threshold : Float
+point_block_rcond_threshold = of_bits binary64 0x3d28_0000_0000_0000
 
 -- the smallest normal value, 2 ^ -1022, `f64::MIN_POSITIVE`
 abbrev pub min_positive : Float

@@ -3,7 +3,7 @@
 use Rattle.std.specs.Prelude.{◌≡◌, Bool, not, ◌&&◌, ◌||◌, cond, List, fold, T, Float}
 use Rattle.std.specs.Float.Ieee.{is_nan, lt, eq}
 use Rattle.numerics.specs.Binary64.{zero, neg_zero}
-use Rattle.numerics.specs.Parts.{negative, nonneg}
+use Rattle.numerics.specs.Classify.{negative, is_nonnegative}
 
 -- x where y is no number, where x is above y, and where the two are equal and x has no sign
 unfoldable pub max : Float → Float → Float
@@ -17,7 +17,7 @@ min x y = cond (is_nan y || lt x y || (eq x y && negative x)) x y
 -- strictly ahead of y. A NaN is passed over: the other operand comes back, and of two NaNs either.
 -- Equal values of one sign are one value, which comes back. Equal values of unlike signs are the
 -- two zeros, of which one is named.
-pub record Picked (ahead : Float → Float → Bool) (of_zeros x y r : Float) : Type 0 where
+pub record PicksOperand (ahead : Float → Float → Bool) (of_zeros x y r : Float) : Type 0 where
   pub first_nan : T (is_nan x) → r ≡ y
   pub second_nan : T (is_nan y) → r ≡ x
   pub first : T (ahead x y) → r ≡ x
@@ -27,22 +27,22 @@ pub record Picked (ahead : Float → Float → Bool) (of_zeros x y r : Float) : 
 
 -- the larger of x and y: +0 of unlike zeros
 abbrev pub IsMaximum : Float → Float → Float → Type 0
-IsMaximum x y r = Picked (λ a b. lt b a) zero x y r
+IsMaximum x y r = PicksOperand (λ a b. lt b a) zero x y r
 
 -- the smaller of x and y: −0 of unlike zeros
 abbrev pub IsMinimum : Float → Float → Float → Type 0
-IsMinimum x y r = Picked lt neg_zero x y r
+IsMinimum x y r = PicksOperand lt neg_zero x y r
 
 -- one comparison: x where it is above low, and low otherwise
-abbrev pub larger : Float → Float → Float
-larger low x = cond (lt low x) x low
+abbrev pub max_nonnegative : Float → Float → Float
+max_nonnegative low x = cond (lt low x) x low
 
 -- Where low is a number with the sign clear, that is the larger of the two, whichever comes first.
-pub record Larger (low x r : Float) : Type 0 where
-  pub is : r ≡ larger low x
-  pub first : T (nonneg low) → r ≡ max low x
-  pub second : T (nonneg low) → r ≡ max x low
+pub record MaxNonnegative (low x r : Float) : Type 0 where
+  pub is : r ≡ max_nonnegative low x
+  pub first : T (is_nonnegative low) → r ≡ max low x
+  pub second : T (is_nonnegative low) → r ≡ max x low
 
 -- `.fold(0.0, f64::max)`
-abbrev pub largest : List Float → Float
-largest xs = fold max zero xs
+abbrev pub fold_max : List Float → Float
+fold_max xs = fold max zero xs

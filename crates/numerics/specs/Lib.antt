@@ -1,5 +1,5 @@
 -- Methods of `f64`, and small vectors.
 pub mod Binary64
-pub mod Parts
+pub mod Classify
 pub mod Vectors
 pub mod Extrema

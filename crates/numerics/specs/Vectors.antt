@@ -3,7 +3,7 @@ use Rattle.std.specs.Prelude.{ℕ, zero as zero·, suc, Bool, true, ◌&&◌, Li
 use Rattle.std.specs.Float.{nan}
 use Rattle.std.specs.Float.Ieee.{eq}
 use Rattle.numerics.specs.Binary64.{◌⊕◌, ◌⊗◌, zero, neg_zero}
-use Rattle.numerics.specs.Parts.{is_finite}
+use Rattle.numerics.specs.Classify.{is_finite}
 
 infixl 90 ◌!◌
 -- the entry at i

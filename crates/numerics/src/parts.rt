@@ -1,12 +1,12 @@
 // The absolute value, the test for a finite value, and the reciprocal.
 ghost use Rattle.std.specs.Prelude.{◌≡◌};
 ghost use Rattle.numerics.specs.Binary64 as Binary64;
-ghost use Rattle.numerics.specs.Parts as Parts;
+ghost use Rattle.numerics.specs.Classify as Classify;
 
 /// `f64::abs`: the sign is cleared, of a zero too.
 #[tactic(auto, using(crate::proofs::Differences::abs_above, crate::proofs::Differences::abs_rest))]
 pub fn abs(x: f64) -> f64
-    ensures { result ≡ Parts.abs x }
+    ensures { result ≡ Classify.abs x }
 {
     // The difference from 0 gives +0 for either zero, where a change of sign would turn +0 into
     // −0. The library's own takes two comparisons.
@@ -16,14 +16,14 @@ pub fn abs(x: f64) -> f64
 /// `f64::is_finite`.
 #[tactic(auto, using(crate::proofs::Differences::library_is_finite))]
 pub fn is_finite(x: f64) -> bool
-    ensures { result ≡ Parts.is_finite x }
+    ensures { result ≡ Classify.is_finite x }
 {
     x.is_finite()
 }
 
 /// Whether x is finite and above 0.
 pub fn positive_finite(x: f64) -> bool
-    ensures { result ≡ Parts.positive_finite x }
+    ensures { result ≡ Classify.is_positive_finite x }
 {
     is_finite(x) & (0.0 < x)
 }

@@ -18,18 +18,18 @@ use Rattle.std.proofs.lemmas.Bool.{and_parts, cases_lt}
 use Rattle.std.proofs.lemmas.Float.{le_left}
 use Rattle.numerics.specs.Vectors.{all_finite}
 use Rattle.refusal.specs.declared.Refusal.{Refusal}
-use Rattle.point_block.specs.Damping.{good_damping}
+use Rattle.point_block.specs.Damping.{is_valid_damping}
 use Rattle.linearization.specs.Linearize.{block_or_zeros}
 use Rattle.linearization.specs.declared.linearize.LocalLinearization.{LocalLinearization}
-use Rattle.schur.specs.Model.{new_system, with_hessian, is_valid}
-use Rattle.refusal.specs.First.{Checked}
-use Rattle.schur.specs.System.{max_blocks, check_room, take_in, add, handed_back}
+use Rattle.schur.specs.Reduced.{new_system, with_hessian, is_valid}
+use Rattle.refusal.specs.FirstRefusal.{CheckResult}
+use Rattle.schur.specs.ReducedAdd.{max_blocks, check_room, take_in, add, system_after}
 use Rattle.schur.specs.declared.reduced_system.ReducedSystem.{ReducedSystem}
 use Rattle.schur.proofs.Room.{blocks_taken, weak_taken_at_most}
-use Rattle.add_sequences.specs.Calls.{Inputs, made, Call, at_damping, next, after, factors, blocks_in, all}
+use Rattle.add_sequences.specs.Calls.{Inputs, linearization_of, Call, Add, system_after_call, system_after_calls, factors, blocks_taken_in, all}
 use Rattle.add_sequences.proofs.Claim.{claim}
 use Rattle.problem.specs.Problem.{Problem, count, correspondence_at}
-use Rattle.problem.specs.Checks.{Accepted, check}
+use Rattle.problem.specs.Checks.{AcceptsFirst, check_problem}
 use Rattle.linearization.specs.Views.{check_views}
 use Rattle.problem.proofs.Passed.{passed, block_made}
 use Rattle.optimizer.specs.Assembly.{block_at, system_to, reduced_system}
@@ -54,16 +54,16 @@ module _ (p : Problem) (i : ℕ) (few : i < max_blocks) where
       (is_true (leb s.weak_point_count s.block_count) (le→leb s.weak_point_count s.block_count (weak_counted p i)), lt-ltb s.block_count max_blocks (rw (blocks_counted p i) few))
 
 module _ (p : Problem) (i : ℕ) (few : i < max_blocks) (s : ReducedSystem) (e : s ≡ system_to p i) where
-  pub room_left : (r : Checked) → r ≡ check_room s → r ≡ Ok tt
+  pub room_left : (r : CheckResult) → r ≡ check_room s → r ≡ Ok tt
   room_left r k = k ∙ rw (e, (counts p i few).0, (counts p i few).1) refl
 
-  pub block_taken : (b : LocalLinearization) (d : Float) (t : ReducedSystem) → b ≡ block_at p i → d ≡ p.damping → t ≡ handed_back s (take_in s b d) → t ≡ system_to p (i + 1)
+  pub block_taken : (b : LocalLinearization) (d : Float) (t : ReducedSystem) → b ≡ block_at p i → d ≡ p.damping → t ≡ system_after s (take_in s b d) → t ≡ system_to p (i + 1)
   unfolding system_to
   block_taken b d t f g k = k ∙ rw (room_left (check_room s) refl, add-one i, f, g, e) refl
 
 -- ---- one more point of which rows 4 and 9 are asked
 
-pub accepted_next : (p : Problem) (i : ℕ) (a b : Bool) → (a ≡ true → Accepted p i) → b ≡ is_ok (check_views p.rig (correspondence_at p i)) → (a && b) ≡ true → Accepted p (i + 1)
+pub accepted_next : (p : Problem) (i : ℕ) (a b : Bool) → (a ≡ true → AcceptsFirst p i) → b ≡ is_ok (check_views p.rig (correspondence_at p i)) → (a && b) ≡ true → AcceptsFirst p (i + 1)
 accepted_next p i a b before e t j h = by (cases_lt j i)
   where
     both : (a ≡ true) × (b ≡ true)
@@ -75,7 +75,7 @@ accepted_next p i a b before e t j h = by (cases_lt j i)
         let same : j ≡ i = omega arith in
         rw same (sym e ∙ both.1)
 
-pub accepted_still : (p : Problem) (i : ℕ) (a b : Bool) → (Accepted p i → a ≡ true) → b ≡ is_ok (check_views p.rig (correspondence_at p i)) → Accepted p (i + 1) → (a && b) ≡ true
+pub accepted_still : (p : Problem) (i : ℕ) (a b : Bool) → (AcceptsFirst p i → a ≡ true) → b ≡ is_ok (check_views p.rig (correspondence_at p i)) → AcceptsFirst p (i + 1) → (a && b) ≡ true
 accepted_still p i a b before e h =
     let first : a ≡ true = before (λ j k. h j (omega arith)) in
     let last : b ≡ true = e ∙ h i (omega arith) in
@@ -88,45 +88,45 @@ inputs p i = record { rig = p.rig; correspondence = correspondence_at p i }
 
 abbrev calls : Problem → ℕ → ℕ → List Call
 calls p i zero = []
-calls p i (suc n) = at_damping (inputs p i) ∷ calls p (suc i) n
+calls p i (suc n) = Add (inputs p i) ∷ calls p (suc i) n
 
 abbrev blocks : Problem → ℕ → ℕ → List LocalLinearization
 blocks p i zero = []
 blocks p i (suc n) = block_at p i ∷ blocks p (suc i) n
 
-module _ (p : Problem) (ok : check p ≡ Ok tt) where
-  good : T (good_damping p.damping)
+module _ (p : Problem) (ok : check_problem p ≡ Ok tt) where
+  good : T (is_valid_damping p.damping)
   good = (passed p ok).damping
 
   few : count p ≤ max_blocks
   few = (passed p ok).fits.3
 
-  made_is : (i : ℕ) → i < count p → made (inputs p i) ≡ block_at p i
+  made_is : (i : ℕ) → i < count p → linearization_of (inputs p i) ≡ block_at p i
   made_is i h = ap block_or_zeros (block_made p ok i h)
 
   pub added : (i : ℕ) → i < count p → add (system_to p i) (block_at p i) p.damping ≡ Ok (system_to p (suc i))
   unfolding add system_to
   added i h =
       let k = counts p i (omega (arith, few)) in
-      rw (is_true (good_damping p.damping) good, k.0, k.1) refl
+      rw (is_true (is_valid_damping p.damping) good, k.0, k.1) refl
 
-  called : (i : ℕ) → i < count p → next p.damping (system_to p i) (at_damping (inputs p i)) ≡ system_to p (suc i)
+  called : (i : ℕ) → i < count p → system_after_call p.damping (system_to p i) (Add (inputs p i)) ≡ system_to p (suc i)
   called i h =
       let s = system_to p i in
-      ap (λ (b : LocalLinearization). handed_back s (add s b p.damping)) (made_is i h) ∙ ap (λ (r : Result ReducedSystem Refusal). handed_back s r) (added i h)
+      ap (λ (b : LocalLinearization). system_after s (add s b p.damping)) (made_is i h) ∙ ap (λ (r : Result ReducedSystem Refusal). system_after s r) (added i h)
 
-  after_calls : (i n : ℕ) → i + n ≤ count p → after p.damping (system_to p i) (calls p i n) ≡ system_to p (i + n)
+  after_calls : (i n : ℕ) → i + n ≤ count p → system_after_calls p.damping (system_to p i) (calls p i n) ≡ system_to p (i + n)
   after_calls i zero h = ap (λ (k : ℕ). system_to p k) (sym (add-zero i))
   after_calls i (suc n) h =
-      ap (λ (s : ReducedSystem). after p.damping s (calls p (suc i) n)) (called i (omega arith))
+      ap (λ (s : ReducedSystem). system_after_calls p.damping s (calls p (suc i) n)) (called i (omega arith))
       ∙ after_calls (suc i) n (omega arith)
       ∙ ap (λ (k : ℕ). system_to p k) (suc-add i n ∙ sym (add-suc i n))
 
-  after_all : after p.damping new_system (calls p 0 (count p)) ≡ system_to p (count p)
+  after_all : system_after_calls p.damping new_system (calls p 0 (count p)) ≡ system_to p (count p)
   unfolding system_to
   after_all = after_calls 0 (count p) (omega arith) ∙ ap (λ (k : ℕ). system_to p k) (zero-add (count p))
 
-  all_taken : (m i n : ℕ) → m + n ≤ max_blocks → i + n ≤ count p → blocks_in m (calls p i n) ≡ blocks p i n
+  all_taken : (m i n : ℕ) → m + n ≤ max_blocks → i + n ≤ count p → blocks_taken_in m (calls p i n) ≡ blocks p i n
   all_taken m i zero h l = refl
   all_taken m i (suc n) h l =
       let k : m < max_blocks = omega arith in
@@ -147,7 +147,7 @@ unfolding is_valid
 valid_flag s e = (and_parts s.valid (all_finite s.gradient) (and_parts (s.valid && all_finite s.gradient) (all_finite s.hessian) e).0).0
 
 -- every block of a problem that has a valid system factors
-module _ (p : Problem) (ok : check p ≡ Ok tt) (valid : is_valid (reduced_system p) ≡ true) where
+module _ (p : Problem) (ok : check_problem p ≡ Ok tt) (valid : is_valid (reduced_system p) ≡ true) where
   all_factor : all (factors p.damping) (blocks p 0 (count p)) ≡ true
   unfolding reduced_system with_hessian
   all_factor =
@@ -170,7 +170,7 @@ weak_at_most p =
 
 -- ---- cost and squared residual are numbers, since the order of IEEE 754 holds of them
 
-pub costs_are_numbers : (p : Problem) → check p ≡ Ok tt → (is_nan (reduced_system p).cost ≡ false) × (is_nan (reduced_system p).squared_residual ≡ false)
+pub costs_are_numbers : (p : Problem) → check_problem p ≡ Ok tt → (is_nan (reduced_system p).cost ≡ false) × (is_nan (reduced_system p).squared_residual ≡ false)
 unfolding reduced_system with_hessian
 costs_are_numbers p ok =
     let f = (claim p.damping (good p ok) (calls p 0 (count p))).further [] in

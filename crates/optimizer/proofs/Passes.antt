@@ -9,14 +9,14 @@ use lib.ListN.{length, drop, length-append}
 use lib.Seq.{take_at, drop_at, drop-drop}
 use lib.Ieee.{Float}
 use Rattle.numerics.specs.Binary64.{◌⊕◌, zero as zero·}
-use Rattle.schur.specs.PointStep.{step_of, stepped}
+use Rattle.schur.specs.PointStep.{step_of, step_by_inverse}
 use Rattle.schur.specs.declared.point_step.PointStep.{PointStep}
 use Rattle.problem.specs.Problem.{Problem}
 use Rattle.optimizer.specs.PointSteps.{step_at, steps_to, squared_norm, sums_to}
 
 module _ (p : Problem) (s : List Float) where
   step_three : (i : ℕ) → length (step_at p s i).step ≡ 3
-  unfolding stepped step_of
+  unfolding step_by_inverse step_of
   step_three i = refl
 
   pub steps_length : (n : ℕ) → length (steps_to p s n) ≡ 3 * n

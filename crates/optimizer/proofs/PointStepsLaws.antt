@@ -9,21 +9,21 @@ use lib.Ieee.{Float}
 use lib.Ieee.Bits.{is_true}
 use Rattle.std.specs.Prelude.{Result, Ok, Err, is_ok}
 use Rattle.refusal.specs.declared.Refusal.{Refusal}
-use Rattle.point_block.specs.Damping.{good_damping}
-use Rattle.point_block.specs.Lone.{factor, inverse_at}
+use Rattle.point_block.specs.Damping.{is_valid_damping}
+use Rattle.point_block.specs.FactorWithRcond.{factor, inverse_at}
 use Rattle.point_block.specs.declared.PointBlockFactor.{PointBlockFactor}
 use Rattle.point_block.proofs.Laws.{lone_factors, factor_is}
 use Rattle.linearization.specs.Linearize.{block_of, point_terms}
 use Rattle.linearization.specs.declared.terms.PointTerms.{PointTerms}
 use Rattle.linearization.specs.declared.views.Correspondence.{Correspondence}
 use Rattle.linearization.specs.declared.linearize.LocalLinearization.{LocalLinearization}
-use Rattle.schur.specs.Model.{is_valid, finish_damping, predicted_reduction}
-use Rattle.schur.specs.PointStep.{stepped, damped_step, point_step}
+use Rattle.schur.specs.Reduced.{is_valid, finish_damping, predicted_reduction}
+use Rattle.schur.specs.PointStep.{step_by_inverse, damped_step, point_step}
 use Rattle.schur.specs.PointStep as Point
 use Rattle.schur.specs.declared.point_step.PointStep.{PointStep}
 use Rattle.add_sequences.specs.Calls.{factors}
 use Rattle.problem.specs.Problem.{Problem, count, correspondence_at}
-use Rattle.problem.specs.Checks.{check}
+use Rattle.problem.specs.Checks.{check_problem}
 use Rattle.problem.proofs.Passed.{passed, block_made}
 use Rattle.optimizer.specs.Assembly.{block_at, reduced_system}
 use Rattle.optimizer.specs.PointSteps.{step_at}
@@ -31,19 +31,19 @@ use Rattle.optimizer.specs.Step.{NoneRefused}
 use Rattle.optimizer.proofs.Blocks.{added, block_factors}
 
 -- a block that factors has the step of the formulas
-damped_steps : (b : LocalLinearization) (d : Float) (s : List Float) → T (good_damping d) → factors d b ≡ true → damped_step (point_terms b) d s ≡ Ok (Point.step_at (point_terms b) d s)
+damped_steps : (b : LocalLinearization) (d : Float) (s : List Float) → T (is_valid_damping d) → factors d b ≡ true → damped_step (point_terms b) d s ≡ Ok (Point.step_at (point_terms b) d s)
 unfolding damped_step point_terms factors
 damped_steps b d s g e = by (factor b.point_hessian d) refl (sym (lone_factors b.point_hessian d g) ∙ e)
   where
     step_by : Result PointBlockFactor Refusal → Result PointStep Refusal
-    step_by f = elim f [ Ok k ↦ Ok (stepped k.inverse (point_terms b) s) | Err q ↦ Err q ]
+    step_by f = elim f [ Ok k ↦ Ok (step_by_inverse k.inverse (point_terms b) s) | Err q ↦ Err q ]
 
-    by : (f : Result PointBlockFactor Refusal) → factor b.point_hessian d ≡ f → is_ok f ≡ true → step_by f ≡ Ok (stepped (inverse_at b.point_hessian d) (point_terms b) s)
-    by (Ok k) q t = ap (λ (i : List Float). Ok (stepped i (point_terms b) s)) (factor_is b.point_hessian d k q)
+    by : (f : Result PointBlockFactor Refusal) → factor b.point_hessian d ≡ f → is_ok f ≡ true → step_by f ≡ Ok (step_by_inverse (inverse_at b.point_hessian d) (point_terms b) s)
+    by (Ok k) q t = ap (λ (i : List Float). Ok (step_by_inverse i (point_terms b) s)) (factor_is b.point_hessian d k q)
     by (Err r) q t = absurd (true≢false (sym t))
 
-module _ (p : Problem) (ok : check p ≡ Ok tt) where
-  good : T (good_damping p.damping)
+module _ (p : Problem) (ok : check_problem p ≡ Ok tt) where
+  good : T (is_valid_damping p.damping)
   good = (passed p ok).damping
 
   pub step_given : is_valid (reduced_system p) ≡ true → (i : ℕ) → i < count p → (s : List Float) → damped_step (point_terms (block_at p i)) p.damping s ≡ Ok (step_at p s i)
@@ -60,7 +60,7 @@ module _ (p : Problem) (ok : check p ≡ Ok tt) where
   none_refused = record {
     blocks = block_made p ok;
     adds = added p ok;
-    damping = rw (is_true (good_damping p.damping) good) refl;
-    steps = λ valid i k s. rw (is_true (good_damping p.damping) good) (step_given valid i k s);
-    prediction = λ s norm. rw (is_true (good_damping p.damping) good) refl;
+    damping = rw (is_true (is_valid_damping p.damping) good) refl;
+    steps = λ valid i k s. rw (is_true (is_valid_damping p.damping) good) (step_given valid i k s);
+    prediction = λ s norm. rw (is_true (is_valid_damping p.damping) good) refl;
   }

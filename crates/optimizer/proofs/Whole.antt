@@ -5,99 +5,99 @@ use Rattle.std.specs.Result.{result_and}
 use borrow.Author.Tests.{eqb-true, ne_eqb}
 use lib.Dec.{eqb}
 use lib.Ieee.{Float}
-use Rattle.refusal.specs.Answer.{answer}
-use Rattle.refusal.specs.First.{Checked, unless}
+use Rattle.refusal.specs.Outcome.{outcome}
+use Rattle.refusal.specs.FirstRefusal.{CheckResult, refuse_unless}
 use Rattle.refusal.specs.declared.Refusal.{Refusal}
 use Rattle.refusal.specs.declared.Refusal.TheVariants.{Lengths, NotFactored}
 use Rattle.solver.specs.Solver.{solve_positive_definite}
-use Rattle.schur.specs.Model.{damped, is_valid}
+use Rattle.schur.specs.Reduced.{with_damping, is_valid}
 use Rattle.schur.specs.declared.reduced_system.ReducedSystem.{ReducedSystem}
 use Rattle.problem.specs.Problem.{Problem, count}
 use Rattle.problem.specs.Checks as Checks
 use Rattle.problem.proofs.Passed.{refused_first}
 use Rattle.optimizer.specs.Assembly.{system_to, reduced_system}
-use Rattle.optimizer.specs.PoseStep.{pose_step}
+use Rattle.optimizer.specs.PoseStep.{negated_limited_step}
 use Rattle.optimizer.specs.PointSteps.{steps_to, sums_to}
-use Rattle.optimizer.specs.Results.{no_result, finished}
-use Rattle.optimizer.specs.Step.{stepped, solved_step, check, step, written, Done}
+use Rattle.optimizer.specs.Results.{zero_step_result, step_result}
+use Rattle.optimizer.specs.Step.{result_with, step_after_checks, check_step, step, point_steps_after, StepOutcome}
 use Rattle.optimizer.specs.declared.point_steps.Sums.{Sums}
 use Rattle.optimizer.specs.declared.step_result.StepResult.{StepResult}
 use Rattle.optimizer.proofs.PointStepsLaws.{none_refused}
 
 -- ---- row 1 with the room: the points' length decides where the two agree, and one of them is wrong where they do not
 
-points_short : (p : Problem) → eqb (length p.points) (3 * count p) ≡ false → Checks.check p ≡ Err Lengths
-unfolding Checks.check
+points_short : (p : Problem) → eqb (length p.points) (3 * count p) ≡ false → Checks.check_problem p ≡ Err Lengths
+unfolding Checks.check_problem
 points_short p e = rw e refl
 
-lengths_differ : (p : Problem) (room : ℕ) → (room ≡ length p.points → ⊥) → check p room ≡ Err Lengths
-unfolding check
+lengths_differ : (p : Problem) (room : ℕ) → (room ≡ length p.points → ⊥) → check_step p room ≡ Err Lengths
+unfolding check_step
 lengths_differ p room t = by (eqb room (3 * count p)) refl
   where
-    by : (b : Bool) → eqb room (3 * count p) ≡ b → result_and (unless b Lengths) (Checks.check p) ≡ Err Lengths
+    by : (b : Bool) → eqb room (3 * count p) ≡ b → result_and (refuse_unless b Lengths) (Checks.check_problem p) ≡ Err Lengths
     by true q = points_short p (ne_eqb (length p.points) (3 * count p) (λ k. t (eqb-true room (3 * count p) q ∙ sym k)))
     by false q = refl
 
-lengths_agree : (p : Problem) (room : ℕ) → room ≡ length p.points → check p room ≡ Checks.check p
-unfolding check
+lengths_agree : (p : Problem) (room : ℕ) → room ≡ length p.points → check_step p room ≡ Checks.check_problem p
+unfolding check_step
 lengths_agree p room t = by (eqb room (3 * count p)) refl
   where
-    by : (b : Bool) → eqb room (3 * count p) ≡ b → result_and (unless b Lengths) (Checks.check p) ≡ Checks.check p
+    by : (b : Bool) → eqb room (3 * count p) ≡ b → result_and (refuse_unless b Lengths) (Checks.check_problem p) ≡ Checks.check_problem p
     by true q = refl
     by false q = sym (points_short p (ap (λ (l : ℕ). eqb l (3 * count p)) (sym t) ∙ q))
 
 -- ---- a problem that is refused has the checks' refusal, and one that is let through stays as it is
 
 -- what a test of a problem answers
-abbrev tested : Checked → Problem → Result Problem Refusal
+abbrev tested : CheckResult → Problem → Result Problem Refusal
 tested r p = result_and r (Ok p)
 
-refused_by : (r : Checked) (p : Problem) (e : Refusal) → tested r p ≡ Err e → r ≡ Err e
+refused_by : (r : CheckResult) (p : Problem) (e : Refusal) → tested r p ≡ Err e → r ≡ Err e
 refused_by (Ok u) p e k = absurd (cc)
 refused_by (Err x) p e k = cc
 
-let_through : (r : Checked) (p q : Problem) → tested r p ≡ Ok q → (r ≡ Ok tt) × (q ≡ p)
+let_through : (r : CheckResult) (p q : Problem) → tested r p ≡ Ok q → (r ≡ Ok tt) × (q ≡ p)
 let_through (Ok u) p q k = (refl, cc)
 let_through (Err x) p q k = absurd (cc)
 
 -- what rows 1 to 3 leave, and then rows 4 to 9
-pub in_turn : (p q : Problem) (r : Result Problem Refusal) → tested (Checks.check_readable p) p ≡ Ok q → tested (Checks.check q) q ≡ r → tested (Checks.check p) p ≡ r
-in_turn p q r h k = ap (λ (o : Problem). tested (Checks.check o) o) (sym (let_through _ p q h).1) ∙ k
+pub in_turn : (p q : Problem) (r : Result Problem Refusal) → tested (Checks.check_readable p) p ≡ Ok q → tested (Checks.check_problem q) q ≡ r → tested (Checks.check_problem p) p ≡ r
+in_turn p q r h k = ap (λ (o : Problem). tested (Checks.check_problem o) o) (sym (let_through _ p q h).1) ∙ k
 
 -- the sums, made before rows 4 to 9 are asked and damped after them
-pub damped_sums : (o q : Problem) (t s : ReducedSystem) (d : Float) → tested (Checks.check o) o ≡ Ok q → t ≡ system_to o (count o) → d ≡ q.damping → s ≡ damped t d → s ≡ reduced_system q
+pub damped_sums : (o q : Problem) (t s : ReducedSystem) (d : Float) → tested (Checks.check_problem o) o ≡ Ok q → t ≡ system_to o (count o) → d ≡ q.damping → s ≡ with_damping t d → s ≡ reduced_system q
 unfolding reduced_system
 damped_sums o q t s d h e f g = rw (g, f, e, (let_through _ o q h).1) refl
 
 -- ---- the ways out of the whole step
 
 module _ (p : Problem) (room : List Float) where
-  refuses : (e : Refusal) → check p (length room) ≡ Err e → Done p room (Err e) room
+  refuses : (e : Refusal) → check_step p (length room) ≡ Err e → StepOutcome p room (Err e) room
   unfolding step
   refuses e h = record { result = rw h refl; answered = rw h refl; room_after = refl; none_refused = λ y. absurd (cc) }
 
-  pub wrong_room : (length room ≡ length p.points → ⊥) → Done p room (Err Lengths) room
+  pub wrong_room : (length room ≡ length p.points → ⊥) → StepOutcome p room (Err Lengths) room
   wrong_room t = refuses Lengths (lengths_differ p (length room) t)
 
   module _ (t : length room ≡ length p.points) where
-    pub unreadable : (e : Refusal) (r : Result StepResult Refusal) → tested (Checks.check_readable p) p ≡ Err e → r ≡ Err e → Done p room r room
+    pub unreadable : (e : Refusal) (r : Result StepResult Refusal) → tested (Checks.check_readable p) p ≡ Err e → r ≡ Err e → StepOutcome p room r room
     unreadable e r h k = rw k (refuses e (lengths_agree p (length room) t ∙ refused_first p e (refused_by _ p e h)))
 
-    pub checks_refused : (e : Refusal) (r : Result StepResult Refusal) → tested (Checks.check p) p ≡ Err e → r ≡ Err e → Done p room r room
+    pub checks_refused : (e : Refusal) (r : Result StepResult Refusal) → tested (Checks.check_problem p) p ≡ Err e → r ≡ Err e → StepOutcome p room r room
     checks_refused e r h k = rw k (refuses e (lengths_agree p (length room) t ∙ refused_by _ p e h))
 
-    module _ (q : Problem) (h : tested (Checks.check p) p ≡ Ok q) where
-      ok : Checks.check p ≡ Ok tt
+    module _ (q : Problem) (h : tested (Checks.check_problem p) p ≡ Ok q) where
+      ok : Checks.check_problem p ≡ Ok tt
       ok = (let_through _ p q h).0
 
       same : q ≡ p
       same = (let_through _ p q h).1
 
-      done : (r : Result StepResult Refusal) (after : List Float) → r ≡ solved_step p → after ≡ written p r room → Done p room r after
+      done : (r : Result StepResult Refusal) (after : List Float) → r ≡ step_after_checks p → after ≡ point_steps_after p r room → StepOutcome p room r after
       unfolding step
       done r after e f = record {
         result = e ∙ rw (lengths_agree p (length room) t, ok) refl;
-        answered = ap (answer no_result) (e ∙ rw (lengths_agree p (length room) t, ok) refl);
+        answered = ap (outcome zero_step_result) (e ∙ rw (lengths_agree p (length room) t, ok) refl);
         room_after = f;
         none_refused = λ y. none_refused p ok;
       }
@@ -106,20 +106,20 @@ module _ (p : Problem) (room : List Float) where
         made : s ≡ reduced_system p
         made = system ∙ ap reduced_system same
 
-        pub not_valid : is_valid s ≡ false → Done p room (Err NotFactored) room
-        unfolding solved_step
+        pub not_valid : is_valid s ≡ false → StepOutcome p room (Err NotFactored) room
+        unfolding step_after_checks
         not_valid e = done (Err NotFactored) room (rw (sym made, e) refl) refl
 
         module _ (valid : is_valid s ≡ true) where
-          pub not_solved : (e : Refusal) (r : Result StepResult Refusal) → solve_positive_definite s.hessian s.gradient ≡ Err e → r ≡ Err e → Done p room r room
-          unfolding solved_step
+          pub not_solved : (e : Refusal) (r : Result StepResult Refusal) → solve_positive_definite s.hessian s.gradient ≡ Err e → r ≡ Err e → StepOutcome p room r room
+          unfolding step_after_checks
           not_solved e r k l = rw l (done (Err e) room (rw (sym made, valid, k) refl) refl)
 
-          pub solved : (x v : List Float) (sums : Sums) (after : List Float) (u : StepResult) → solve_positive_definite s.hessian s.gradient ≡ Ok x → v ≡ pose_step x
+          pub solved : (x v : List Float) (sums : Sums) (after : List Float) (u : StepResult) → solve_positive_definite s.hessian s.gradient ≡ Ok x → v ≡ negated_limited_step x
               → sums ≡ sums_to q v (count q)
               → after ≡ steps_to q v (count q)
-              → u ≡ finished s v q.damping (count q) sums.squared sums.damping_norm
-              → Done p room (Ok u) after
-          unfolding solved_step stepped finished
+              → u ≡ step_result s v q.damping (count q) sums.squared sums.damping_norm
+              → StepOutcome p room (Ok u) after
+          unfolding step_after_checks result_with step_result
           solved x v sums after u k l e f g =
               done (Ok u) after (ap Ok g ∙ rw (e, l, same, sym made, valid, k) refl) (f ∙ rw (same, g) refl)

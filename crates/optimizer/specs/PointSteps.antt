@@ -9,7 +9,7 @@ use Rattle.problem.specs.Problem.{Problem}
 use Rattle.schur.specs.PointStep as Point
 use Rattle.schur.specs.declared.point_step.PointStep.{PointStep}
 use Rattle.optimizer.specs.Assembly.{block_at}
-use Rattle.optimizer.specs.PoseStep.{squared}
+use Rattle.optimizer.specs.PoseStep.{square}
 use Rattle.optimizer.specs.declared.point_steps.Sums.{Sums}
 
 -- what the step of a point answers
@@ -26,7 +26,7 @@ steps_to p s zero = []
 steps_to p s (suc n) = steps_to p s n ++ (step_at p s n).step
 
 abbrev pub squared_norm : List Float → Float
-squared_norm x = sum (squared (x ! 0) ∷ squared (x ! 1) ∷ squared (x ! 2) ∷ [])
+squared_norm x = sum (square (x ! 0) ∷ square (x ! 1) ∷ square (x ! 2) ∷ [])
 
 unfoldable pub sums_to : Problem → List Float → ℕ → Sums
 sums_to p s zero = record { squared = zero·; damping_norm = zero· }

@@ -6,19 +6,19 @@ use Rattle.root.specs.Root.{sqrt}
 use Rattle.numerics.specs.Vectors.{◌!◌, sum, tabulate}
 use Rattle.numerics.specs.Extrema.{max}
 
-abbrev pub squared : Float → Float
-squared x = x ⊗ x
+abbrev pub square : Float → Float
+square x = x ⊗ x
 
 -- the longer of the rotation's part and the translation's
 abbrev pub step_length : List Float → Float
-step_length x = max (sqrt (sum (squared (x ! 0) ∷ squared (x ! 1) ∷ squared (x ! 2) ∷ []))) (sqrt (sum (squared (x ! 3) ∷ squared (x ! 4) ∷ [])))
+step_length x = max (sqrt (sum (square (x ! 0) ∷ square (x ! 1) ∷ square (x ! 2) ∷ []))) (sqrt (sum (square (x ! 3) ∷ square (x ! 4) ∷ [])))
 
-abbrev pub scaled : List Float → Float → List Float
-scaled x by = tabulate 5 (λ i. x ! i ⊗ by)
+abbrev pub scaled_step : List Float → Float → List Float
+scaled_step x by = tabulate 5 (λ i. x ! i ⊗ by)
 
 -- `limit_pose_step` at 0.5; the comparison is false for a NaN, which lets the vector through
 unfoldable pub limit_pose_step : List Float → List Float
-limit_pose_step x = cond (lt half (step_length x)) (scaled x (half ⊘ step_length x)) x
+limit_pose_step x = cond (lt half (step_length x)) (scaled_step x (half ⊘ step_length x)) x
 
-unfoldable pub pose_step : List Float → List Float
-pose_step x = limit_pose_step (tabulate 5 (λ i. neg (x ! i)))
+unfoldable pub negated_limited_step : List Float → List Float
+negated_limited_step x = limit_pose_step (tabulate 5 (λ i. neg (x ! i)))

@@ -5,7 +5,7 @@ use Rattle.std.specs.Float.Ieee.{of_int}
 use Rattle.numerics.specs.Binary64.{◌⊘◌, zero}
 use Rattle.numerics.specs.Vectors.{zeros}
 use Rattle.root.specs.Root.{sqrt}
-use Rattle.schur.specs.Model.{gradient_inf_norm, reduction_of}
+use Rattle.schur.specs.Reduced.{gradient_inf_norm, reduction_of}
 use Rattle.schur.specs.declared.reduced_system.ReducedSystem.{ReducedSystem}
 use Rattle.optimizer.specs.declared.step_result.StepResult.{StepResult}
 
@@ -13,8 +13,8 @@ abbrev pub rms : Float → ℕ → Float
 rms squares n = sqrt (squares ⊘ of_int binary64 (pos n))
 
 -- +0 everywhere: what stands beside a refusal
-abbrev pub no_result : StepResult
-no_result = record {
+abbrev pub zero_step_result : StepResult
+zero_step_result = record {
   pose_step = zeros 5;
   cost = zero;
   squared_residual = zero;
@@ -28,8 +28,8 @@ no_result = record {
 
 -- the result, from the system, the limited step of the pose, and the squared lengths and damping
 -- norms of n point steps, summed
-unfoldable pub finished : ReducedSystem → List Float → Float → ℕ → Float → Float → StepResult
-finished system s damping n squared damping_norm = record {
+unfoldable pub step_result : ReducedSystem → List Float → Float → ℕ → Float → Float → StepResult
+step_result system s damping n squared damping_norm = record {
   pose_step = s;
   cost = system.cost;
   squared_residual = system.squared_residual;

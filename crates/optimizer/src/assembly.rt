@@ -5,7 +5,7 @@
 // kernel/two_view/optimizer.rs.
 
 ghost use Rattle.std.specs.Prelude.{◌≡◌, true};
-ghost use Rattle.schur.specs.Model as Model;
+ghost use Rattle.schur.specs.Reduced as Reduced;
 ghost use Rattle.problem.specs.Problem as Problems;
 ghost use Rattle.problem.specs.Checks as Checks;
 ghost use Rattle.optimizer.specs.Assembly as Assembly;
@@ -32,10 +32,10 @@ pub fn reduced_system(problem: &CheckedProblem) -> ReducedSystem
 // wide stores some processors run slower for the next 0.7 ms.
 #[tactic(auto, unfolding(crate::specs::Assembly::system_to))]
 pub(crate) fn add_blocks(problem: &ReadableProblem, system: &mut ReducedSystem) -> bool
-    requires { system.old ≡ Model.new_system }
+    requires { system.old ≡ Reduced.new_system }
     ensures system { system.new ≡ Assembly.system_to problem.now (Problems.count problem.now) }
-    ensures accepted { result ≡ true → Checks.Accepted problem.now (Problems.count problem.now) }
-    ensures each { Checks.Accepted problem.now (Problems.count problem.now) → result ≡ true }
+    ensures accepted { result ≡ true → Checks.AcceptsFirst problem.now (Problems.count problem.now) }
+    ensures each { Checks.AcceptsFirst problem.now (Problems.count problem.now) → result ≡ true }
 {
     let fitting = problem.fitting();
     let damping = problem.damping();

@@ -5,7 +5,7 @@
 // kernel/two_view/optimizer.rs.
 
 ghost use Rattle.std.specs.Prelude.{◌≡◌, ◌*◌, true, length};
-ghost use Rattle.schur.specs.Model as Model;
+ghost use Rattle.schur.specs.Reduced as Reduced;
 ghost use Rattle.problem.specs.Problem as Problems;
 ghost use Rattle.optimizer.specs.Assembly as Assembly;
 ghost use Rattle.optimizer.specs.PointSteps as Steps;
@@ -25,7 +25,7 @@ pub(crate) struct Sums {
 // Writes each point's step into the room.
 #[tactic(auto, using(crate::proofs::Passes::room_none, crate::proofs::Passes::room_next, crate::proofs::Passes::sums_none, crate::proofs::Passes::squared_next, crate::proofs::Passes::norm_next))]
 pub(crate) fn write_steps(problem: &CheckedProblem, pose_step: [f64; 5], room: &mut [f64]) -> Sums
-    requires valid { Model.is_valid (Assembly.reduced_system problem.now) ≡ true }
+    requires valid { Reduced.is_valid (Assembly.reduced_system problem.now) ≡ true }
     requires room { length room.old ≡ 3 * Problems.count problem.now }
     ensures sums { result ≡ Steps.sums_to problem.now pose_step (Problems.count problem.now) }
     ensures room { room.new ≡ Steps.steps_to problem.now pose_step (Problems.count problem.now) }

@@ -26,7 +26,7 @@ pub fn limit_pose_step(x: [f64; 5]) -> [f64; 5]
 }
 
 fn scaled(x: [f64; 5], by: f64) -> [f64; 5]
-    ensures { result ≡ PoseStep.scaled x by }
+    ensures { result ≡ PoseStep.scaled_step x by }
 {
     x.map(|v| v * by)
 }
@@ -45,9 +45,9 @@ fn length<const N: usize>(v: [f64; N]) -> f64
 }
 
 // The limited step of a solution
-#[tactic(auto, unfolding(crate::specs::PoseStep::pose_step))]
+#[tactic(auto, unfolding(crate::specs::PoseStep::negated_limited_step))]
 pub(crate) fn pose_step(x: [f64; 5]) -> [f64; 5]
-    ensures { result ≡ PoseStep.pose_step x }
+    ensures { result ≡ PoseStep.negated_limited_step x }
 {
     limit_pose_step(x.map(|v| -v))
 }

@@ -27,14 +27,14 @@ pub struct StepResult {
 
 impl StepResult {
     /// Of a problem with its system, its limited step, and what its point steps add up to
-    #[tactic(auto, unfolding(crate::specs::Results::finished))]
+    #[tactic(auto, unfolding(crate::specs::Results::step_result))]
     pub(crate) fn of(
         problem: &CheckedProblem,
         system: &ReducedSystem,
         pose_step: [f64; 5],
         sums: Sums,
     ) -> Self
-        ensures { result ≡ Results.finished system.now pose_step problem.now.damping
+        ensures { result ≡ Results.step_result system.now pose_step problem.now.damping
             (Problems.count problem.now) sums.squared sums.damping_norm }
     {
         let n = problem.fitting().count();

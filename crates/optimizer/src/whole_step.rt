@@ -16,7 +16,7 @@ use schur::reduced_system::ReducedSystem;
 
 /// One step. Tests rows 1 to 11; refused, it leaves the room as it was.
 pub fn step(problem: &Problem, room: &mut [f64]) -> Result<StepResult, Refusal>
-    ensures { Steps.Done (Problems.of problem.now) room.old result room.new }
+    ensures { Steps.StepOutcome (Problems.of problem.now) room.old result room.new }
 {
     // Where the two lengths differ, one of them is not 3n; where they do not, row 1 tests both.
     if room.len() != problem.points.len() {
@@ -40,8 +40,8 @@ pub fn step(problem: &Problem, room: &mut [f64]) -> Result<StepResult, Refusal>
 // Rows 4 to 9. The points are looked at again, in the order of the rows, only where one is refused
 // or row 5 or 7 refuses.
 fn checked(problem: ReadableProblem<'_>, accepted: bool) -> Result<CheckedProblem<'_>, Refusal>
-    requires { accepted ≡ true → Checks.Accepted problem (Problems.count problem) }
-    ensures { result ≡ result_and (Checks.check problem.entry) (Ok problem.entry) }
+    requires { accepted ≡ true → Checks.AcceptsFirst problem (Problems.count problem) }
+    ensures { result ≡ result_and (Checks.check_problem problem.entry) (Ok problem.entry) }
 {
     if accepted && problem.passes_rows_5_and_7() {
         return Ok(CheckedProblem { readable: problem });

@@ -1,5 +1,5 @@
 // The block of one point, and how the point moves. A block is 59 numbers.
-ghost use Rattle.c_calls.specs.Answers as Answers;
+ghost use Rattle.c_calls.specs.Outcomes as Outcomes;
 ghost use Rattle.c_calls.specs.PointCalls as Calls;
 
 use c_calls::block_calls;
@@ -12,7 +12,7 @@ pub extern "C" fn pixel_step_linearize_point(
     correspondence: &[f64],
     out: &mut [f64],
 ) -> u64
-    ensures { Answers.Answered result out.new
+    ensures { Outcomes.HasOutcome result out.new
         (Calls.linearize_point rig.now correspondence.now out.old) }
 {
     block_calls::linearize_point(rig, correspondence, out)
@@ -26,7 +26,7 @@ pub extern "C" fn pixel_step_point_step_with_damping_norm(
     pose_step: &[f64],
     out: &mut [f64],
 ) -> u64
-    ensures { Answers.Answered result out.new
+    ensures { Outcomes.HasOutcome result out.new
         (Calls.point_step block.now damping pose_step.now out.old) }
 {
     block_calls::point_step_with_damping_norm(block, damping, pose_step, out)

@@ -3,7 +3,7 @@ ghost use Rattle.std.specs.Prelude.{◌≡◌};
 ghost use Rattle.std.specs.Float.Ieee as Ieee;
 ghost use Rattle.std.specs.Float.{binary64};
 ghost use Rattle.numerics.specs.Binary64 as Binary64;
-ghost use Rattle.numerics.specs.Parts as Parts;
+ghost use Rattle.numerics.specs.Classify as Classify;
 ghost use Rattle.numerics.specs.Extrema as Extrema;
 ghost use Rattle.root.specs.Root as Root;
 
@@ -20,7 +20,7 @@ pub extern "C" fn pixel_step_sqrt(x: f64) -> f64
 /// The value without its sign
 #[unsafe(no_mangle)]
 pub extern "C" fn pixel_step_abs(x: f64) -> f64
-    ensures { result ≡ Parts.abs x }
+    ensures { result ≡ Classify.abs x }
 {
     numerics::abs(x)
 }
@@ -28,7 +28,7 @@ pub extern "C" fn pixel_step_abs(x: f64) -> f64
 /// Whether it is neither infinite nor a NaN
 #[unsafe(no_mangle)]
 pub extern "C" fn pixel_step_is_finite(x: f64) -> bool
-    ensures { result ≡ Parts.is_finite x }
+    ensures { result ≡ Classify.is_finite x }
 {
     numerics::is_finite(x)
 }

@@ -1,5 +1,5 @@
 // The projection.
-ghost use Rattle.c_calls.specs.Answers as Answers;
+ghost use Rattle.c_calls.specs.Outcomes as Outcomes;
 ghost use Rattle.c_calls.specs.PointCalls as Calls;
 
 use c_calls::block_calls;
@@ -13,7 +13,7 @@ pub extern "C" fn pixel_step_pixel_projection(
     point: &[f64],
     out: &mut [f64],
 ) -> u64
-    ensures { Answers.Answered result out.new
+    ensures { Outcomes.HasOutcome result out.new
         (Calls.pixel_projection camera.now observation.now point.now out.old) }
 {
     block_calls::pixel_projection(camera, observation, point, out)

@@ -7,7 +7,7 @@ use run_list::record;
 /// suffice.
 #[unsafe(no_mangle)]
 pub extern "C" fn pixel_step_write_list(record: &[u8], out: &mut [u8]) -> u64
-    ensures { Interface.Listed «record».now out.old result out.new }
+    ensures { Interface.HasListOutcome «record».now out.old result out.new }
 {
     match record::write_list(record, out) {
         Ok(length) => length as u64,

@@ -1,5 +1,5 @@
 // The 5 by 5 solve.
-ghost use Rattle.c_calls.specs.Answers as Answers;
+ghost use Rattle.c_calls.specs.Outcomes as Outcomes;
 ghost use Rattle.c_calls.specs.MatrixCalls as Calls;
 
 use c_calls::matrix_calls;
@@ -7,7 +7,7 @@ use c_calls::matrix_calls;
 /// The solution of five equations. a: 25 numbers, row by row; b: 5; out: 5
 #[unsafe(no_mangle)]
 pub extern "C" fn pixel_step_solve_positive_definite(a: &[f64], b: &[f64], out: &mut [f64]) -> u64
-    ensures { Answers.Answered result out.new
+    ensures { Outcomes.HasOutcome result out.new
         (Calls.solve_positive_definite a.now b.now out.old) }
 {
     matrix_calls::solve_positive_definite(a, b, out)

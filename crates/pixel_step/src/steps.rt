@@ -1,7 +1,7 @@
 // One whole step of the two-view problem, and the limit of the pose step.
 ghost use Rattle.problem.specs.Problem as Problem;
-ghost use Rattle.c_calls.specs.Answers as Answers;
-ghost use Rattle.c_calls.specs.Flat as Flat;
+ghost use Rattle.c_calls.specs.Outcomes as Outcomes;
+ghost use Rattle.c_calls.specs.Layout as Layout;
 ghost use Rattle.c_calls.specs.StepCalls as Calls;
 
 use c_calls::step_calls;
@@ -20,8 +20,8 @@ pub extern "C" fn pixel_step_step<'a>(
     out: &mut [f64],
     weak: &mut [u16],
 ) -> u64
-    ensures { Calls.Stepped result room.new out.new weak.new
-        (Calls.step (Problem.problem points.now view1.now view2.now inverse_deviations.now (Flat.rig rig.now) damping)
+    ensures { Calls.HasStepOutcome result room.new out.new weak.new
+        (Calls.step (Problem.problem points.now view1.now view2.now inverse_deviations.now (Layout.rig rig.now) damping)
         rig.now room.old out.old weak.old) }
 {
     step_calls::step(
@@ -40,7 +40,7 @@ pub extern "C" fn pixel_step_step<'a>(
 /// The limited step. x: 5; out: 5
 #[unsafe(no_mangle)]
 pub extern "C" fn pixel_step_limit_pose_step(x: &[f64], out: &mut [f64]) -> u64
-    ensures { Answers.Answered result out.new (Calls.limit_pose_step x.now out.old) }
+    ensures { Outcomes.HasOutcome result out.new (Calls.limit_pose_step x.now out.old) }
 {
     step_calls::limit_pose_step(x, out)
 }

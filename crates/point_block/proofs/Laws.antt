@@ -6,24 +6,24 @@ use lib.Ieee.{Float, binary64, lt}
 use lib.Ieee.Bits.{is_true}
 use lib.Ieee.Fits.{and_l, and_r}
 use Rattle.numerics.specs.Binary64.{◌⊗◌, zero, recip}
-use Rattle.numerics.specs.Parts.{is_finite, nonneg, positive_finite}
+use Rattle.numerics.specs.Classify.{is_finite, is_nonnegative, is_positive_finite}
 use Rattle.numerics.proofs.Order.{nonneg_above, nonneg_recip}
 use Rattle.numerics.proofs.Monotone.{nonneg_zero}
 use Rattle.refusal.specs.declared.Refusal.{Refusal}
 use Rattle.refusal.specs.declared.Refusal.TheVariants.{NotFactored}
-use Rattle.point_block.specs.Cholesky.{good_pivots, factor_of, inverse_by, invert}
-use Rattle.point_block.specs.Damping.{good_damping, largest_diagonal, floored, damping_diagonal, added_diagonal, damped_matrix}
+use Rattle.point_block.specs.Cholesky.{has_valid_pivots, factor_of, inverse_by, invert}
+use Rattle.point_block.specs.Damping.{is_valid_damping, largest_diagonal, damping_diagonal_of, damping_diagonal, with_added_diagonal, damped_matrix}
 use Rattle.point_block.specs.Factor.{factor_damped}
 use Rattle.point_block.specs.declared.PointBlockFactor.{PointBlockFactor}
 use Rattle.point_block.specs.declared.LoneFactor.{LoneFactor}
 use Rattle.point_block.specs.Condition.{infinity_norm, inverse_matrix, reciprocal_condition_number}
-use Rattle.point_block.specs.Lone.{factor, lone_factor, inverse_at}
+use Rattle.point_block.specs.FactorWithRcond.{factor, factor_with_rcond, inverse_at}
 
 -- the lone factor gives the factor wherever there is one: nothing but the matrix and the damping
 -- decides whether there is
-pub lone_factors : (m : List Float) (damping : Float) → T (good_damping damping) → is_ok (lone_factor m damping) ≡ is_ok (factor m damping)
-unfolding lone_factor
-lone_factors m damping g = rw (is_true (good_damping damping) g) (by (factor m damping))
+pub lone_factors : (m : List Float) (damping : Float) → T (is_valid_damping damping) → is_ok (factor_with_rcond m damping) ≡ is_ok (factor m damping)
+unfolding factor_with_rcond
+lone_factors m damping g = rw (is_true (is_valid_damping damping) g) (by (factor m damping))
   where
     by : (f : Result PointBlockFactor Refusal)
         → is_ok {T = LoneFactor} {E = Refusal} (elim f [ Ok g ↦ Ok (record { factor = g; rcond = reciprocal_condition_number g.inverse m }) | Err r ↦ Err r ]) ≡ is_ok f
@@ -31,14 +31,14 @@ lone_factors m damping g = rw (is_true (good_damping damping) g) (by (factor m d
     by (Err r) = refl
 
 -- the factor of a damped matrix is the inverse by the formulas alone
-damped_factor_is : (h : List Float) (f : PointBlockFactor) → factor_damped h ≡ Ok f → f.inverse ≡ inverse_by h (floored h)
+damped_factor_is : (h : List Float) (f : PointBlockFactor) → factor_damped h ≡ Ok f → f.inverse ≡ inverse_by h (damping_diagonal_of h)
 unfolding factor_damped invert
-damped_factor_is h f = by (good_pivots (factor_of h (floored h)))
+damped_factor_is h f = by (has_valid_pivots (factor_of h (damping_diagonal_of h)))
   where
     factor_by : Bool → Result PointBlockFactor Refusal
-    factor_by good = elim (cond good (Some (inverse_by h (floored h))) None) [ Some i ↦ Ok (record { inverse = i }) | None ↦ Err NotFactored ]
+    factor_by good = elim (cond good (Some (inverse_by h (damping_diagonal_of h))) None) [ Some i ↦ Ok (record { inverse = i }) | None ↦ Err NotFactored ]
 
-    by : (good : Bool) → factor_by good ≡ Ok f → f.inverse ≡ inverse_by h (floored h)
+    by : (good : Bool) → factor_by good ≡ Ok f → f.inverse ≡ inverse_by h (damping_diagonal_of h)
     by true e = ap (λ (r : Result PointBlockFactor Refusal). inverse_in r) (sym e)
       where
         inverse_in : Result PointBlockFactor Refusal → List Float
@@ -49,27 +49,27 @@ damped_factor_is h f = by (good_pivots (factor_of h (floored h)))
 -- so is that of a matrix at a damping
 pub factor_is : (m : List Float) (damping : Float) (f : PointBlockFactor) → factor m damping ≡ Ok f → f.inverse ≡ inverse_at m damping
 unfolding factor damped_matrix damping_diagonal
-factor_is m damping f = by (positive_finite (largest_diagonal m))
+factor_is m damping f = by (is_positive_finite (largest_diagonal m))
   where
     damped_by : Bool → Result (List Float) Refusal
-    damped_by good = elim (cond good (Ok (floored m)) (Err NotFactored)) [ Ok d ↦ Ok (added_diagonal m damping d) | Err r ↦ Err r ]
+    damped_by good = elim (cond good (Ok (damping_diagonal_of m)) (Err NotFactored)) [ Ok d ↦ Ok (with_added_diagonal m damping d) | Err r ↦ Err r ]
 
     factor_by : Bool → Result PointBlockFactor Refusal
     factor_by good = elim (damped_by good) [ Ok d ↦ factor_damped d | Err r ↦ Err r ]
 
     by : (good : Bool) → factor_by good ≡ Ok f → f.inverse ≡ inverse_at m damping
-    by true e = damped_factor_is (added_diagonal m damping (floored m)) f e
+    by true e = damped_factor_is (with_added_diagonal m damping (damping_diagonal_of m)) f e
     by false e = absurd (cc)
 
 -- rcond is a number and never below zero
-pub rcond_nonneg : (i m : List Float) → T (nonneg (reciprocal_condition_number i m))
+pub rcond_nonneg : (i m : List Float) → T (is_nonnegative (reciprocal_condition_number i m))
 unfolding reciprocal_condition_number
 rcond_nonneg i m = by (infinity_norm m ⊗ infinity_norm (inverse_matrix i))
   where
-    by : (d : Float) → T (nonneg (cond (positive_finite d) (recip d) zero))
-    by d = go (positive_finite d) (λ h. h)
+    by : (d : Float) → T (is_nonnegative (cond (is_positive_finite d) (recip d) zero))
+    by d = go (is_positive_finite d) (λ h. h)
       where
-        go : (b : Bool) → (T b → T (positive_finite d)) → T (nonneg (cond b (recip d) zero))
+        go : (b : Bool) → (T b → T (is_positive_finite d)) → T (is_nonnegative (cond b (recip d) zero))
         go true k =
             let A = is_finite d in
             let B = lt zero d in

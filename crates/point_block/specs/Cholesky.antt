@@ -2,8 +2,8 @@
 -- point_block.rs. A matrix is nine numbers, row by row.
 use Rattle.std.specs.Prelude.{Bool, ◌&&◌, cond, List, [], ◌∷◌, Float, Option, Some, None}
 use Rattle.std.specs.Float.Ieee.{neg, lt}
-use Rattle.numerics.specs.Binary64.{◌⊕◌, ◌⊖◌, ◌⊗◌, ◌⊘◌, half, epsilon64, recip}
-use Rattle.numerics.specs.Parts.{is_finite}
+use Rattle.numerics.specs.Binary64.{◌⊕◌, ◌⊖◌, ◌⊗◌, ◌⊘◌, half, relative_tolerance, recip}
+use Rattle.numerics.specs.Classify.{is_finite}
 use Rattle.root.specs.Root.{sqrt}
 use Rattle.numerics.specs.Vectors.{◌!◌}
 use Rattle.point_block.specs.declared.cholesky.Scale.{Scale}
@@ -38,11 +38,11 @@ cholesky_of a =
     record { p0 = a.e00; p1 = p₁; p2 = p₂; lower = record { e00 = l₀₀; e10 = l₁₀; e11 = l₁₁; e20 = l₂₀; e21 = l₂₁; e22 = sqrt p₂ } }
 
 -- "Each scaled pivot must be finite and > 64ε"
-abbrev pub good_pivot : Float → Bool
-good_pivot p = is_finite p && lt epsilon64 p
+abbrev pub is_valid_pivot : Float → Bool
+is_valid_pivot p = is_finite p && lt relative_tolerance p
 
-unfoldable pub good_pivots : Factor → Bool
-good_pivots c = good_pivot c.p0 && good_pivot c.p1 && good_pivot c.p2
+unfoldable pub has_valid_pivots : Factor → Bool
+has_valid_pivots c = is_valid_pivot c.p0 && is_valid_pivot c.p1 && is_valid_pivot c.p2
 
 -- M is the inverse of the lower triangle; the scaled inverse is Mᵀ M, and the block's has the
 -- scale taken out on both sides
@@ -76,4 +76,4 @@ inverse_by m d = inverse_of (factor_of m d).lower (scale_of d)
 
 -- none where a pivot is not good
 unfoldable pub invert : List Float → List Float → Option (List Float)
-invert m d = cond (good_pivots (factor_of m d)) (Some (inverse_by m d)) None
+invert m d = cond (has_valid_pivots (factor_of m d)) (Some (inverse_by m d)) None

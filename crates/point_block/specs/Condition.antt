@@ -2,10 +2,10 @@
 -- the inverse), or 0 if that product is not positive and finite.
 use Rattle.std.specs.Prelude.{Bool, cond, List, [], ◌∷◌, Float}
 use Rattle.std.specs.Float.Ieee.{le}
-use Rattle.numerics.specs.Binary64.{◌⊗◌, zero, one, epsilon192, recip}
-use Rattle.numerics.specs.Parts.{abs, positive_finite}
+use Rattle.numerics.specs.Binary64.{◌⊗◌, zero, one, point_block_rcond_threshold, recip}
+use Rattle.numerics.specs.Classify.{abs, is_positive_finite}
 use Rattle.numerics.specs.Vectors.{◌!◌, sum}
-use Rattle.numerics.specs.Extrema.{largest}
+use Rattle.numerics.specs.Extrema.{fold_max}
 use Rattle.point_block.specs.Factor.{solve}
 
 -- the sum of a row's absolute values
@@ -13,7 +13,7 @@ abbrev pub row_norm : Float → Float → Float → Float
 row_norm x y z = sum (abs x ∷ abs y ∷ abs z ∷ [])
 
 unfoldable pub infinity_norm : List Float → Float
-infinity_norm m = largest (row_norm (m ! 0) (m ! 1) (m ! 2) ∷ row_norm (m ! 3) (m ! 4) (m ! 5) ∷ row_norm (m ! 6) (m ! 7) (m ! 8) ∷ [])
+infinity_norm m = fold_max (row_norm (m ! 0) (m ! 1) (m ! 2) ∷ row_norm (m ! 3) (m ! 4) (m ! 5) ∷ row_norm (m ! 6) (m ! 7) (m ! 8) ∷ [])
 
 -- The inverse by three solves with unit vectors, each a column: not the six stored numbers,
 -- since ∞ × 0 has to show.
@@ -27,8 +27,8 @@ inverse_matrix i =
 unfoldable pub reciprocal_condition_number : List Float → List Float → Float
 reciprocal_condition_number i m =
     let denominator = infinity_norm m ⊗ infinity_norm (inverse_matrix i) in
-    cond (positive_finite denominator) (recip denominator) zero
+    cond (is_positive_finite denominator) (recip denominator) zero
 
 -- of a block that factors at damping zero, by its rcond: weak at 192ε and below
 abbrev pub is_weak : Float → Bool
-is_weak rcond = le rcond epsilon192
+is_weak rcond = le rcond point_block_rcond_threshold

@@ -2,41 +2,41 @@
 -- A matrix is nine numbers, row by row.
 use Rattle.std.specs.Prelude.{Bool, not, ◌&&◌, cond, List, [], ◌∷◌, Float, Result, Ok, Err}
 use Rattle.std.specs.Float.Ieee.{lt, eq}
-use Rattle.numerics.specs.Binary64.{◌⊕◌, ◌⊗◌, zero, epsilon64}
-use Rattle.numerics.specs.Parts.{is_finite, positive_finite}
+use Rattle.numerics.specs.Binary64.{◌⊕◌, ◌⊗◌, zero, relative_tolerance}
+use Rattle.numerics.specs.Classify.{is_finite, is_positive_finite}
 use Rattle.numerics.specs.Vectors.{◌!◌}
-use Rattle.numerics.specs.Extrema.{max, largest}
+use Rattle.numerics.specs.Extrema.{max, fold_max}
 use Rattle.refusal.specs.declared.Refusal.{Refusal}
 use Rattle.refusal.specs.declared.Refusal.TheVariants.{Damping, NotFactored}
 
 -- row 3: damping not finite or below 0
-unfoldable pub good_damping : Float → Bool
-good_damping damping = is_finite damping && not (lt damping zero)
+unfoldable pub is_valid_damping : Float → Bool
+is_valid_damping damping = is_finite damping && not (lt damping zero)
 
 -- a damping that row 3 lets through, or its refusal
 abbrev pub valid_damping : Float → Result Float Refusal
-valid_damping damping = cond (good_damping damping) (Ok damping) (Err Damping)
+valid_damping damping = cond (is_valid_damping damping) (Ok damping) (Err Damping)
 
 -- "Damping −0 counts as zero"
 abbrev pub is_zero : Float → Bool
 is_zero damping = eq damping zero
 
 unfoldable pub largest_diagonal : List Float → Float
-largest_diagonal m = largest (m ! 0 ∷ m ! 4 ∷ m ! 8 ∷ [])
+largest_diagonal m = fold_max (m ! 0 ∷ m ! 4 ∷ m ! 8 ∷ [])
 
 -- each diagonal entry, but no less than 64ε times the largest; a NaN gives way to that floor
-unfoldable pub floored : List Float → List Float
-floored m =
-    let floor = epsilon64 ⊗ largest_diagonal m in
+unfoldable pub damping_diagonal_of : List Float → List Float
+damping_diagonal_of m =
+    let floor = relative_tolerance ⊗ largest_diagonal m in
     max (m ! 0) floor ∷ max (m ! 4) floor ∷ max (m ! 8) floor ∷ []
 
 -- "No positive finite largest diagonal: no factor": row 10
 unfoldable pub damping_diagonal : List Float → Result (List Float) Refusal
-damping_diagonal m = cond (positive_finite (largest_diagonal m)) (Ok (floored m)) (Err NotFactored)
+damping_diagonal m = cond (is_positive_finite (largest_diagonal m)) (Ok (damping_diagonal_of m)) (Err NotFactored)
 
 -- the matrix with damping times those entries added along the diagonal
-unfoldable pub added_diagonal : List Float → Float → List Float → List Float
-added_diagonal m damping d =
+unfoldable pub with_added_diagonal : List Float → Float → List Float → List Float
+with_added_diagonal m damping d =
     m ! 0 ⊕ damping ⊗ d ! 0
     ∷ m ! 1
     ∷ m ! 2
@@ -49,4 +49,4 @@ added_diagonal m damping d =
     ∷ []
 
 unfoldable pub damped_matrix : List Float → Float → Result (List Float) Refusal
-damped_matrix m damping = elim (damping_diagonal m) [ Ok d ↦ Ok (added_diagonal m damping d) | Err r ↦ Err r ]
+damped_matrix m damping = elim (damping_diagonal m) [ Ok d ↦ Ok (with_added_diagonal m damping d) | Err r ↦ Err r ]

@@ -6,17 +6,17 @@ use Rattle.numerics.specs.Vectors.{◌!◌, zeros}
 use Rattle.refusal.specs.declared.Refusal.{Refusal}
 use Rattle.refusal.specs.declared.Refusal.TheVariants.{NotFactored}
 use Rattle.point_block.specs.Cholesky.{invert}
-use Rattle.point_block.specs.Damping.{floored}
+use Rattle.point_block.specs.Damping.{damping_diagonal_of}
 use Rattle.point_block.specs.declared.PointBlockFactor.{PointBlockFactor}
 
 -- +0 everywhere: what stands beside a refusal
-abbrev pub no_factor : PointBlockFactor
-no_factor = record { inverse = zeros 6 }
+abbrev pub zero_factor : PointBlockFactor
+zero_factor = record { inverse = zeros 6 }
 
 -- row 10 where a pivot is not good; the scale is the roots of the diagonal entries, none below
 -- 64ε of the largest
 unfoldable pub factor_damped : List Float → Result PointBlockFactor Refusal
-factor_damped m = elim (invert m (floored m)) [ Some i ↦ Ok (record { inverse = i }) | None ↦ Err NotFactored ]
+factor_damped m = elim (invert m (damping_diagonal_of m)) [ Some i ↦ Ok (record { inverse = i }) | None ↦ Err NotFactored ]
 
 -- `solve`: the six stored numbers times a vector
 abbrev pub solve : List Float → List Float → List Float

@@ -3,4 +3,4 @@ pub mod Cholesky
 pub mod Damping
 pub mod Factor
 pub mod Condition
-pub mod Lone
+pub mod FactorWithRcond

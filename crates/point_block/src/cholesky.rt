@@ -104,14 +104,14 @@ fn cholesky_of(a: Lower) -> Factor
 }
 
 fn good_pivot(p: f64) -> bool
-    ensures { result ≡ Cholesky.good_pivot p }
+    ensures { result ≡ Cholesky.is_valid_pivot p }
 {
     numerics::is_finite(p) & (numerics::EPSILON64 < p)
 }
 
-#[tactic(auto, unfolding(crate::specs::Cholesky::good_pivots))]
+#[tactic(auto, unfolding(crate::specs::Cholesky::has_valid_pivots))]
 fn good_pivots(c: Factor) -> bool
-    ensures { result ≡ Cholesky.good_pivots c }
+    ensures { result ≡ Cholesky.has_valid_pivots c }
 {
     good_pivot(c.p0) & good_pivot(c.p1) & good_pivot(c.p2)
 }

@@ -13,10 +13,10 @@ mod cholesky;
 pub mod point_damping;
 
 ghost use Rattle.std.specs.Prelude.{◌≡◌};
-ghost use Rattle.refusal.specs.Answer.{answer};
+ghost use Rattle.refusal.specs.Outcome.{outcome};
 ghost use Rattle.point_block.specs.Condition as Condition;
 ghost use Rattle.point_block.specs.Factor as Factor;
-ghost use Rattle.point_block.specs.Lone as Lone;
+ghost use Rattle.point_block.specs.FactorWithRcond as FactorWithRcond;
 
 use numerics::extrema;
 use point_damping::ValidDamping;
@@ -37,11 +37,11 @@ pub struct LoneFactor {
 
 impl PointBlockFactor {
     /// The factor with its rcond. Tests row 3, then row 10.
-    #[tactic(auto, unfolding(crate::specs::Lone::lone_factor))]
+    #[tactic(auto, unfolding(crate::specs::FactorWithRcond::factor_with_rcond))]
     pub fn new(matrix: [f64; 9], damping: f64) -> Result<LoneFactor, Refusal>
-        ensures result { result ≡ Lone.lone_factor matrix damping }
-        ensures answer { answer Lone.no_lone_factor result
-            ≡ answer Lone.no_lone_factor (Lone.lone_factor matrix damping) }
+        ensures result { result ≡ FactorWithRcond.factor_with_rcond matrix damping }
+        ensures outcome { outcome FactorWithRcond.zero_conditioned_factor result
+            ≡ outcome FactorWithRcond.zero_conditioned_factor (FactorWithRcond.factor_with_rcond matrix damping) }
     {
         let damping = ValidDamping::new(damping)?;
         let factor = Self::factor(matrix, damping)?;
@@ -50,12 +50,12 @@ impl PointBlockFactor {
     }
 
     /// The factor of the matrix at a damping, which is the Rust's `new`. Tests row 10.
-    #[tactic(auto, unfolding(crate::specs::Lone::factor))]
+    #[tactic(auto, unfolding(crate::specs::FactorWithRcond::factor))]
     #[inline(always)]
     pub fn factor(matrix: [f64; 9], damping: ValidDamping) -> Result<Self, Refusal>
-        ensures result { result ≡ Lone.factor matrix damping }
-        ensures answer { answer Factor.no_factor result
-            ≡ answer Factor.no_factor (Lone.factor matrix damping) }
+        ensures result { result ≡ FactorWithRcond.factor matrix damping }
+        ensures outcome { outcome Factor.zero_factor result
+            ≡ outcome Factor.zero_factor (FactorWithRcond.factor matrix damping) }
     {
         Self::factor_damped(point_damping::damped_matrix(matrix, damping)?)
     }
@@ -65,8 +65,8 @@ impl PointBlockFactor {
     #[inline(always)]
     pub fn factor_damped(damped: [f64; 9]) -> Result<Self, Refusal>
         ensures result { result ≡ Factor.factor_damped damped }
-        ensures answer { answer Factor.no_factor result
-            ≡ answer Factor.no_factor (Factor.factor_damped damped) }
+        ensures outcome { outcome Factor.zero_factor result
+            ≡ outcome Factor.zero_factor (Factor.factor_damped damped) }
     {
         let diagonal = point_damping::floored_diagonal(damped);
         let inverse = cholesky::invert(damped, diagonal).ok_or(Refusal::NotFactored)?;

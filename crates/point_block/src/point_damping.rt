@@ -6,7 +6,7 @@
 
 ghost use Rattle.std.specs.Prelude.{◌≡◌, T};
 ghost use Rattle.numerics.specs.Vectors.{zeros};
-ghost use Rattle.refusal.specs.Answer.{answer};
+ghost use Rattle.refusal.specs.Outcome.{outcome};
 ghost use Rattle.point_block.specs.Damping as Damping;
 
 use numerics::extrema;
@@ -21,13 +21,13 @@ pub struct ValidDamping {
 
 impl Model for ValidDamping {
     ghost use Rattle.std.specs.Prelude.{T, Float};
-    ghost use Rattle.point_block.specs.Damping.{good_damping};
+    ghost use Rattle.point_block.specs.Damping.{is_valid_damping};
 
     ghost Value = { Float };
 
     ghost view = { λ d. d.value };
 
-    ghost invariant = { λ d. T (good_damping d.value) };
+    ghost invariant = { λ d. T (is_valid_damping d.value) };
 
     ghost inverse = { λ x. record { value = x } };
 }
@@ -37,7 +37,7 @@ impl ValidDamping {
     pub fn new(damping: f64) -> Result<Self, Refusal>
         ensures { result ≡ Damping.valid_damping damping }
     {
-        if good_damping(damping) {
+        if is_valid_damping(damping) {
             Ok(Self { value: damping })
         } else {
             Err(Refusal::Damping)
@@ -47,7 +47,7 @@ impl ValidDamping {
     /// The number itself
     pub fn value(self) -> f64
         ensures value { result ≡ self }
-        ensures valid { T (Damping.good_damping result) }
+        ensures valid { T (Damping.is_valid_damping result) }
     {
         self.value
     }
@@ -60,9 +60,9 @@ impl ValidDamping {
     }
 }
 
-#[tactic(auto, unfolding(crate::specs::Damping::good_damping))]
-fn good_damping(damping: f64) -> bool
-    ensures { result ≡ Damping.good_damping damping }
+#[tactic(auto, unfolding(crate::specs::Damping::is_valid_damping))]
+fn is_valid_damping(damping: f64) -> bool
+    ensures { result ≡ Damping.is_valid_damping damping }
 {
     numerics::is_finite(damping) & !(damping < 0.0)
 }
@@ -72,7 +72,7 @@ fn good_damping(damping: f64) -> bool
 #[tactic(auto, unfolding(crate::specs::Damping::damped_matrix))]
 pub fn damped_matrix(matrix: [f64; 9], damping: ValidDamping) -> Result<[f64; 9], Refusal>
     ensures result { result ≡ Damping.damped_matrix matrix damping }
-    ensures answer { answer (zeros 9) result ≡ answer (zeros 9) (Damping.damped_matrix matrix damping) }
+    ensures outcome { outcome (zeros 9) result ≡ outcome (zeros 9) (Damping.damped_matrix matrix damping) }
 {
     let diagonal = damping_diagonal(matrix)?;
     Ok(added_diagonal(matrix, damping.value(), diagonal))
@@ -83,7 +83,7 @@ pub fn damped_matrix(matrix: [f64; 9], damping: ValidDamping) -> Result<[f64; 9]
 #[tactic(auto, unfolding(crate::specs::Damping::damping_diagonal))]
 pub fn damping_diagonal(matrix: [f64; 9]) -> Result<[f64; 3], Refusal>
     ensures result { result ≡ Damping.damping_diagonal matrix }
-    ensures answer { answer (zeros 3) result ≡ answer (zeros 3) (Damping.damping_diagonal matrix) }
+    ensures outcome { outcome (zeros 3) result ≡ outcome (zeros 3) (Damping.damping_diagonal matrix) }
 {
     let scale = largest_diagonal(matrix);
     if !numerics::positive_finite(scale) {
@@ -94,7 +94,7 @@ pub fn damping_diagonal(matrix: [f64; 9]) -> Result<[f64; 3], Refusal>
 
 /// The diagonal, but no entry below 64ε of the largest.
 pub fn floored_diagonal(m: [f64; 9]) -> [f64; 3]
-    ensures { result ≡ Damping.floored m }
+    ensures { result ≡ Damping.damping_diagonal_of m }
 {
     floored(m, largest_diagonal(m))
 }
@@ -109,7 +109,7 @@ fn largest_diagonal(m: [f64; 9]) -> f64
 // The floored diagonal, from the largest entry, which is `scale`.
 fn floored(m: [f64; 9], scale: f64) -> [f64; 3]
     requires { scale ≡ Damping.largest_diagonal m }
-    ensures { result ≡ Damping.floored m }
+    ensures { result ≡ Damping.damping_diagonal_of m }
 {
     let floor = numerics::EPSILON64 * scale;
     [
@@ -119,9 +119,9 @@ fn floored(m: [f64; 9], scale: f64) -> [f64; 3]
     ]
 }
 
-#[tactic(auto, unfolding(crate::specs::Damping::added_diagonal))]
+#[tactic(auto, unfolding(crate::specs::Damping::with_added_diagonal))]
 fn added_diagonal(m: [f64; 9], damping: f64, d: [f64; 3]) -> [f64; 9]
-    ensures { result ≡ Damping.added_diagonal m damping d }
+    ensures { result ≡ Damping.with_added_diagonal m damping d }
 {
     [
         m[0] + damping * d[0],

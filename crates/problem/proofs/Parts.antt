@@ -12,7 +12,7 @@ use lib.ListN.{get_or}
 use lib.Ieee.{Float}
 use Rattle.std.specs.Prelude.{Result, Ok, Err}
 use Rattle.std.specs.Result.{result_and, is_ok}
-use Rattle.refusal.specs.First.{Checked, unless, first}
+use Rattle.refusal.specs.FirstRefusal.{CheckResult, refuse_unless, first_refusal_from}
 use Rattle.refusal.specs.declared.Refusal.{Refusal}
 use Rattle.refusal.specs.declared.Refusal.TheVariants.{Projection}
 use Rattle.refusal.specs.declared.View.{View}
@@ -48,20 +48,20 @@ multiple l e n h = by (eqb l (e * n)) refl
 abbrev views : List View
 views = First ∷ Second ∷ []
 
-abbrev pub check_at : Problem → ℕ → ℕ → Checked
+abbrev pub check_at : Problem → ℕ → ℕ → CheckResult
 check_at p i k = check_view p i (get_or views k First)
 
-none_after : (r s : Checked) → result_and r s ≡ result_and r (result_and s (Ok tt))
+none_after : (r s : CheckResult) → result_and r s ≡ result_and r (result_and s (Ok tt))
 none_after (Ok u) (Ok v) = refl
 none_after (Ok u) (Err e) = refl
 none_after (Err e) s = refl
 
 pub views_begin : (p : Problem) (i : ℕ) → Scanned (check_projection p i) (check_at p i) 2 0
-unfolding first
+unfolding first_refusal_from
 views_begin p i = (omega arith, none_after (check_view p i First) (check_view p i Second))
 
 -- what a view's test says of its check
 pub seen_check : (p : Problem) (i k : ℕ) (view : View) (seen point : List Float) (r : Result Projected Refusal) (good : Bool) → view ≡ get_or views k First
     → seen ≡ observation p.view1 p.view2 view i → point ≡ triple p.points i → r ≡ project p.rig view seen point → is_ok r ≡ good
-    → check_at p i k ≡ unless good (Projection view i)
+    → check_at p i k ≡ refuse_unless good (Projection view i)
 seen_check p i k view seen point r good v a b c d = rw (← d, ← v, c, a, b) refl

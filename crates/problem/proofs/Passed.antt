@@ -9,18 +9,18 @@ use Rattle.std.specs.Result.{result_and}
 use lib.Ieee.Bits.{is_true}
 use Rattle.std.proofs.lemmas.Bool.{and_parts}
 use Rattle.numerics.specs.Vectors.{◌!◌, all_finite}
-use Rattle.refusal.specs.First.{Checked, unless, first}
+use Rattle.refusal.specs.FirstRefusal.{CheckResult, refuse_unless, first_refusal_from}
 use Rattle.refusal.specs.declared.Refusal.{Refusal}
-use Rattle.projection.specs.Projection.{pixel_projection}
+use Rattle.projection.specs.PixelProjection.{pixel_projection}
 use Rattle.projection.proofs.Laws.{point_finite, observation_finite}
 use Rattle.refusal.specs.declared.View.TheVariants.{First, Second}
 use Rattle.refusal.specs.declared.Refusal.TheVariants.{Lengths, TooManyPoints, Damping, InverseDeviation, Baseline, TooFewPoints, Projection}
-use Rattle.point_block.specs.Damping.{good_damping}
-use Rattle.linearization.specs.Views.{good_deviation, moved, check_views}
+use Rattle.point_block.specs.Damping.{is_valid_damping}
+use Rattle.linearization.specs.Views.{is_valid_inverse_standard_deviation, point_in_camera2, check_views}
 use Rattle.linearization.proofs.Tested.{accepted_is}
 use Rattle.linearization.specs.Linearize.{block_of, linearize_point}
 use Rattle.problem.specs.Problem.{Problem, count, triple, pair, correspondence_at, project}
-use Rattle.problem.specs.Checks.{lengths_fit, min_points, max_points, Fits, Accepted, good_baseline, check_deviation, check_point, check_observation, check_view, check_projection, check_seen, check_values, check_readable, check}
+use Rattle.problem.specs.Checks.{has_matching_lengths, min_points, max_points, HasMatchingLengths, AcceptsFirst, is_valid_baseline, check_inverse_standard_deviation, check_point, check_observation, check_view, check_projection, check_both_views, check_values, check_readable, check_problem}
 use Rattle.refusal.proofs.Scans.{after_ok, held, all_ok, passes}
 
 all_fit : (p v w n : ℕ) → (eqb p (3 * n) && eqb v (2 * n) && eqb w (2 * n)) ≡ true → leb n max_points ≡ true → (p ≡ 3 * n) × (v ≡ 2 * n) × (w ≡ 2 * n) × (n ≤ max_points)
@@ -31,68 +31,68 @@ all_fit p v w n t h =
 
 -- what a problem is that rows 1 to 9 let through
 pub record Passed (p : Problem) : Type 0 where
-  pub fits : Fits p
-  pub damping : T (good_damping p.damping)
-  pub deviations : first (check_deviation p.deviations) 0 (count p) ≡ Ok tt
-  pub projections : first (check_projection p) 0 (count p) ≡ Ok tt
+  pub fits : HasMatchingLengths p
+  pub damping : T (is_valid_damping p.damping)
+  pub deviations : first_refusal_from (check_inverse_standard_deviation p.deviations) 0 (count p) ≡ Ok tt
+  pub projections : first_refusal_from (check_projection p) 0 (count p) ≡ Ok tt
 
-pub passed : (p : Problem) → check p ≡ Ok tt → Passed p
-unfolding check check_values check_seen
+pub passed : (p : Problem) → check_problem p ≡ Ok tt → Passed p
+unfolding check_problem check_values check_both_views
 passed p e =
-    let lengths = after_ok (unless (lengths_fit p) Lengths) _ e in
-    let points = after_ok (unless (leb (count p) max_points) TooManyPoints) (check_values p) lengths.1 in
-    let damping = after_ok (unless (good_damping p.damping) Damping) _ points.1 in
-    let deviations = after_ok (first (check_deviation p.deviations) 0 (count p)) _ damping.1 in
-    let baseline = after_ok (unless (good_baseline p.rig.pose.baseline) Baseline) _ deviations.1 in
-    let coordinates = after_ok (first (check_point p.points) 0 (count p)) _ baseline.1 in
-    let few = after_ok (unless (leb min_points (count p)) TooFewPoints) (check_seen p) coordinates.1 in
-    let view1 = after_ok (first (check_observation p First) 0 (count p)) _ few.1 in
-    let view2 = after_ok (first (check_observation p Second) 0 (count p)) _ view1.1 in
+    let lengths = after_ok (refuse_unless (has_matching_lengths p) Lengths) _ e in
+    let points = after_ok (refuse_unless (leb (count p) max_points) TooManyPoints) (check_values p) lengths.1 in
+    let damping = after_ok (refuse_unless (is_valid_damping p.damping) Damping) _ points.1 in
+    let deviations = after_ok (first_refusal_from (check_inverse_standard_deviation p.deviations) 0 (count p)) _ damping.1 in
+    let baseline = after_ok (refuse_unless (is_valid_baseline p.rig.pose.baseline) Baseline) _ deviations.1 in
+    let coordinates = after_ok (first_refusal_from (check_point p.points) 0 (count p)) _ baseline.1 in
+    let few = after_ok (refuse_unless (leb min_points (count p)) TooFewPoints) (check_both_views p) coordinates.1 in
+    let view1 = after_ok (first_refusal_from (check_observation p First) 0 (count p)) _ few.1 in
+    let view2 = after_ok (first_refusal_from (check_observation p Second) 0 (count p)) _ view1.1 in
     record {
-      fits = all_fit _ _ _ _ (held (lengths_fit p) Lengths lengths.0) (held (leb (count p) max_points) TooManyPoints points.0);
-      damping = subst T (sym (held (good_damping p.damping) Damping damping.0)) tt;
+      fits = all_fit _ _ _ _ (held (has_matching_lengths p) Lengths lengths.0) (held (leb (count p) max_points) TooManyPoints points.0);
+      damping = subst T (sym (held (is_valid_damping p.damping) Damping damping.0)) tt;
       deviations = deviations.0;
       projections = view2.1;
     }
 
 -- each of its points has a block
-pub block_made : (p : Problem) → check p ≡ Ok tt → (i : ℕ) → i < count p → linearize_point p.rig (correspondence_at p i) ≡ Ok (block_of p.rig (correspondence_at p i))
+pub block_made : (p : Problem) → check_problem p ≡ Ok tt → (i : ℕ) → i < count p → linearize_point p.rig (correspondence_at p i) ≡ Ok (block_of p.rig (correspondence_at p i))
 unfolding linearize_point check_views project
 block_made p e i h =
     let k = passed p e in
-    let deviation = held (good_deviation (p.deviations ! i)) (InverseDeviation i) (all_ok (check_deviation p.deviations) (count p) i h k.deviations) in
+    let deviation = held (is_valid_inverse_standard_deviation (p.deviations ! i)) (InverseDeviation i) (all_ok (check_inverse_standard_deviation p.deviations) (count p) i h k.deviations) in
     let both = after_ok (check_view p i First) (check_view p i Second) (all_ok (check_projection p) (count p) i h k.projections) in
-    let first = held _ (Projection First i) both.0 in
+    let first_refusal_from = held _ (Projection First i) both.0 in
     let second = held _ (Projection Second i) both.1 in
-    rw (deviation, first, second) refl
+    rw (deviation, first_refusal_from, second) refl
 
 -- ---- row by row
 
 -- what rows 1 to 3 refuse
-pub refused_first : (p : Problem) (e : Refusal) → check_readable p ≡ Err e → check p ≡ Err e
-unfolding check_readable check check_values
-refused_first p e = by (unless (lengths_fit p) Lengths) (unless (leb (count p) max_points) TooManyPoints) (unless (good_damping p.damping) Damping) _
+pub refused_first : (p : Problem) (e : Refusal) → check_readable p ≡ Err e → check_problem p ≡ Err e
+unfolding check_readable check_problem check_values
+refused_first p e = by (refuse_unless (has_matching_lengths p) Lengths) (refuse_unless (leb (count p) max_points) TooManyPoints) (refuse_unless (is_valid_damping p.damping) Damping) _
   where
-    by : (a b c rest : Checked) → result_and a (result_and b c) ≡ Err e → result_and a (result_and b (result_and c rest)) ≡ Err e
+    by : (a b c rest : CheckResult) → result_and a (result_and b c) ≡ Err e → result_and a (result_and b (result_and c rest)) ≡ Err e
     by (Err x) b c rest k = k
     by (Ok u) (Err x) c rest k = k
     by (Ok u) (Ok v) (Err x) rest k = k
     by (Ok u) (Ok v) (Ok w) rest k = absurd (cc)
 
 -- where the lengths fit, rows 3 to 9 decide
-pub fitting_check : (p : Problem) → Fits p → check p ≡ check_values p
-unfolding check
+pub fitting_check : (p : Problem) → HasMatchingLengths p → check_problem p ≡ check_values p
+unfolding check_problem
 fitting_check p f = rw (eq-eqb _ _ f.0, eq-eqb _ _ f.1, eq-eqb _ _ f.2, is_true _ (le→leb _ _ f.3)) refl
 
 -- A problem whose points need not be looked at again: rows 1 to 3, 5 and 7 let it through, and
 -- rows 4 and 9 each point by itself.
-module _ (p : Problem) (fits : Fits p) (damping : T (good_damping p.damping)) (rest : (good_baseline p.rig.pose.baseline && leb min_points (count p)) ≡ true)
-    (accepted : Accepted p (count p)) where
+module _ (p : Problem) (fits : HasMatchingLengths p) (damping : T (is_valid_damping p.damping)) (rest : (is_valid_baseline p.rig.pose.baseline && leb min_points (count p)) ≡ true)
+    (accepted : AcceptsFirst p (count p)) where
   -- what the tests of a point's views say
   record Seen (i : ℕ) : Type 0 where
-    deviation : good_deviation (p.deviations ! i) ≡ true
+    deviation : is_valid_inverse_standard_deviation (p.deviations ! i) ≡ true
     view1 : is_ok (pixel_projection p.rig.camera1 (pair p.view1 i) (triple p.points i)) ≡ true
-    view2 : is_ok (pixel_projection p.rig.camera2 (pair p.view2 i) (moved p.rig (correspondence_at p i))) ≡ true
+    view2 : is_ok (pixel_projection p.rig.camera2 (pair p.view2 i) (point_in_camera2 p.rig (correspondence_at p i))) ≡ true
 
   seen : (i : ℕ) → i < count p → Seen i
   seen i h =
@@ -100,7 +100,7 @@ module _ (p : Problem) (fits : Fits p) (damping : T (good_damping p.damping)) (r
       let d = and_parts _ _ e.0 in
       record { deviation = d.0; view1 = d.1; view2 = e.1 }
 
-  deviations_pass : (i : ℕ) → i < count p → check_deviation p.deviations i ≡ Ok tt
+  deviations_pass : (i : ℕ) → i < count p → check_inverse_standard_deviation p.deviations i ≡ Ok tt
   deviations_pass i h = rw ((seen i h).deviation) refl
 
   points_pass : (i : ℕ) → i < count p → check_point p.points i ≡ Ok tt
@@ -125,15 +125,15 @@ module _ (p : Problem) (fits : Fits p) (damping : T (good_damping p.damping)) (r
   unfolding project
   projections_pass i h = rw ((seen i h).view1, (seen i h).view2) refl
 
-  pub accepted_passes : check p ≡ Ok tt
-  unfolding check_values check_seen
+  pub accepted_passes : check_problem p ≡ Ok tt
+  unfolding check_values check_both_views
   accepted_passes =
-      let r = and_parts (good_baseline p.rig.pose.baseline) (leb min_points (count p)) rest in
+      let r = and_parts (is_valid_baseline p.rig.pose.baseline) (leb min_points (count p)) rest in
       let n = count p in
       fitting_check p fits
       ∙ rw (
         is_true _ damping,
-        passes (check_deviation p.deviations) n deviations_pass,
+        passes (check_inverse_standard_deviation p.deviations) n deviations_pass,
         r.0,
         passes (check_point p.points) n points_pass,
         r.1,

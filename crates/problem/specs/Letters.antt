@@ -2,25 +2,25 @@
 use Rattle.std.specs.Prelude.{ℕ, cond, Float, Ok, Err}
 use Rattle.point_block.specs.Damping.{is_zero}
 use Rattle.point_block.specs.Condition.{reciprocal_condition_number, is_weak}
-use Rattle.point_block.specs.Lone.{factor}
+use Rattle.point_block.specs.FactorWithRcond.{factor}
 use Rattle.linearization.specs.declared.linearize.LocalLinearization.{LocalLinearization}
 use Rattle.problem.specs.declared.letters.Grade.{Grade}
 use Rattle.problem.specs.declared.letters.Grade.TheVariants.{NotFactored, Weak, Good, Factored}
 
 -- at damping zero a block that factors is weak with rcond ≤ 192ε, and good above it
-unfoldable pub of : LocalLinearization → Float → Grade
-of b damping =
+unfoldable pub quality_of : LocalLinearization → Float → Grade
+quality_of b damping =
     elim (factor b.point_hessian damping) [
       | Ok f ↦ cond (is_zero damping) (cond (is_weak (reciprocal_condition_number f.inverse b.point_hessian)) Weak Good) Factored
       | Err r ↦ NotFactored
     ]
 
 -- `n` does not factor; at damping zero `w` is weak and `g` good; at other dampings `f` factors
-abbrev pub byte : Grade → ℕ
-byte NotFactored = 110
-byte Weak = 119
-byte Good = 103
-byte Factored = 102
+abbrev pub letter_byte : Grade → ℕ
+letter_byte NotFactored = 110
+letter_byte Weak = 119
+letter_byte Good = 103
+letter_byte Factored = 102
 
-unfoldable pub letter : LocalLinearization → Float → ℕ
-letter b damping = byte (of b damping)
+unfoldable pub letter_of : LocalLinearization → Float → ℕ
+letter_of b damping = letter_byte (quality_of b damping)

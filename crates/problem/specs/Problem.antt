@@ -5,8 +5,8 @@ use Rattle.numerics.specs.Vectors.{◌!◌}
 use Rattle.refusal.specs.declared.View.{View}
 use Rattle.refusal.specs.declared.View.TheVariants.{First, Second}
 use Rattle.refusal.specs.declared.Refusal.{Refusal}
-use Rattle.projection.specs.Pose.{rotate, camera_point}
-use Rattle.projection.specs.Projection.{pixel_projection}
+use Rattle.projection.specs.CameraFrame.{rotate, camera_point}
+use Rattle.projection.specs.PixelProjection.{pixel_projection}
 use Rattle.projection.specs.declared.Projected.{Projected}
 use Rattle.linearization.specs.declared.views.Correspondence.{Correspondence}
 use Rattle.linearization.specs.declared.views.Rig.{Rig}

@@ -6,8 +6,8 @@
 
 ghost use Rattle.std.specs.Prelude.{◌≡◌, ◌<◌, ◌*◌, ◌&&◌, eqb, leb, true, Ok, T};
 ghost use Rattle.std.specs.Result.{result_and};
-ghost use Rattle.refusal.specs.First as First;
-ghost use Rattle.point_block.specs.Damping.{good_damping};
+ghost use Rattle.refusal.specs.FirstRefusal as FirstRefusal;
+ghost use Rattle.point_block.specs.Damping.{is_valid_damping};
 ghost use Rattle.problem.specs.Problem as Problems;
 ghost use Rattle.problem.specs.Checks as Checks;
 
@@ -34,14 +34,14 @@ pub struct ReadableProblem<'a> {
 
 impl<'a> Model for ReadableProblem<'a> {
     ghost use Rattle.std.specs.Prelude.{◌≡◌, T};
-    ghost use Rattle.point_block.specs.Damping.{good_damping};
+    ghost use Rattle.point_block.specs.Damping.{is_valid_damping};
     ghost use Rattle.problem.specs.Problem.{Problem, of};
 
     ghost Value = { Problem };
 
     ghost view = { λ r. of r.fitting.problem.now };
 
-    ghost invariant = { λ r. (r.damping ≡ r.fitting.problem.now.damping) × T (good_damping r.damping) };
+    ghost invariant = { λ r. (r.damping ≡ r.fitting.problem.now.damping) × T (is_valid_damping r.damping) };
 }
 
 /// A problem that rows 1 to 9 let through, row 1 without the room
@@ -53,13 +53,13 @@ pub struct CheckedProblem<'a> {
 impl<'a> Model for CheckedProblem<'a> {
     ghost use Rattle.std.specs.Prelude.{◌≡◌, Ok};
     ghost use Rattle.problem.specs.Problem.{Problem};
-    ghost use Rattle.problem.specs.Checks.{check};
+    ghost use Rattle.problem.specs.Checks.{check_problem};
 
     ghost Value = { Problem };
 
     ghost view = { λ c. c.readable };
 
-    ghost invariant = { λ c. check c.readable ≡ Ok tt };
+    ghost invariant = { λ c. check_problem c.readable ≡ Ok tt };
 }
 
 impl<'a> ReadableProblem<'a> {
@@ -102,10 +102,10 @@ impl<'a> ReadableProblem<'a> {
     /// point through as well, so do rows 1 to 9.
     #[tactic(auto, using(crate::proofs::Passed::accepted_passes))]
     pub fn passes_rows_5_and_7(&self) -> bool
-        ensures rows { result ≡ (Checks.good_baseline self.now.rig.pose.baseline
+        ensures rows { result ≡ (Checks.is_valid_baseline self.now.rig.pose.baseline
             && leb Checks.min_points (Problems.count self.now)) }
-        ensures passes { result ≡ true → Checks.Accepted self.now (Problems.count self.now)
-            → Checks.check self.now ≡ Ok tt }
+        ensures passes { result ≡ true → Checks.AcceptsFirst self.now (Problems.count self.now)
+            → Checks.check_problem self.now ≡ Ok tt }
     {
         good_baseline(self.fitting.problem.rig.pose.baseline)
             & (self.fitting.count() >= MINIMUM_POINTS)
@@ -116,7 +116,7 @@ impl<'a> CheckedProblem<'a> {
     /// Tests rows 1 to 9, row 1 without the room.
     #[tactic(auto, using(crate::proofs::Passed::refused_first))]
     pub fn new(problem: &'a Problem<'a>) -> Result<CheckedProblem<'a>, Refusal>
-        ensures { result ≡ result_and (Checks.check (Problems.of problem.now))
+        ensures { result ≡ result_and (Checks.check_problem (Problems.of problem.now))
             (Ok (Problems.of problem.now)) }
     {
         Self::of(ReadableProblem::new(problem)?)
@@ -125,7 +125,7 @@ impl<'a> CheckedProblem<'a> {
     /// Tests rows 4 to 9, in their order.
     #[tactic(auto, using(crate::proofs::Passed::fitting_check))]
     pub fn of(readable: ReadableProblem<'a>) -> Result<CheckedProblem<'a>, Refusal>
-        ensures { result ≡ result_and (Checks.check readable.entry) (Ok readable.entry) }
+        ensures { result ≡ result_and (Checks.check_problem readable.entry) (Ok readable.entry) }
     {
         check_values(readable.fitting())?;
         Ok(CheckedProblem { readable })
@@ -134,7 +134,7 @@ impl<'a> CheckedProblem<'a> {
     /// The problem as one whose lengths fit
     pub fn fitting(&self) -> FittingProblem<'a>
         ensures problem { Problems.of result.problem.now ≡ self.now }
-        ensures checked { Checks.check self.now ≡ Ok tt }
+        ensures checked { Checks.check_problem self.now ≡ Ok tt }
     {
         self.readable.fitting()
     }
@@ -159,7 +159,7 @@ fn belongs(length: usize, each: usize, n: usize) -> bool
 // Rows 4 to 9, where row 3 lets the damping through
 #[tactic(auto, unfolding(crate::specs::Checks::check_values))]
 fn check_values(fitting: FittingProblem) -> Result<(), Refusal>
-    requires { T (good_damping fitting.problem.now.damping) }
+    requires { T (is_valid_damping fitting.problem.now.damping) }
     ensures { result ≡ Checks.check_values (Problems.of fitting.entry.problem.now) }
 {
     check_deviations(fitting)?;
@@ -176,7 +176,7 @@ fn check_values(fitting: FittingProblem) -> Result<(), Refusal>
 // Row 4
 #[tactic(auto, using(refusal::proofs::Scans::leaves, refusal::proofs::Scans::goes_on, refusal::proofs::Scans::ends))]
 fn check_deviations(fitting: FittingProblem) -> Result<(), Refusal>
-    ensures { result ≡ First.first (Checks.check_deviation (Problems.of fitting.entry.problem.now).deviations) 0
+    ensures { result ≡ FirstRefusal.first_refusal_from (Checks.check_inverse_standard_deviation (Problems.of fitting.entry.problem.now).deviations) 0
         (Problems.count (Problems.of fitting.entry.problem.now)) }
 {
     for (i, x) in fitting.problem.inverse_deviations.iter().enumerate() {
@@ -188,9 +188,9 @@ fn check_deviations(fitting: FittingProblem) -> Result<(), Refusal>
 }
 
 // Row 5
-#[tactic(auto, unfolding(crate::specs::Checks::good_baseline))]
+#[tactic(auto, unfolding(crate::specs::Checks::is_valid_baseline))]
 fn good_baseline(baseline: f64) -> bool
-    ensures { result ≡ Checks.good_baseline baseline }
+    ensures { result ≡ Checks.is_valid_baseline baseline }
 {
     numerics::is_finite(baseline) && !(baseline <= numerics::EPSILON64)
 }
@@ -198,7 +198,7 @@ fn good_baseline(baseline: f64) -> bool
 // Row 6
 #[tactic(auto, using(refusal::proofs::Scans::leaves, refusal::proofs::Scans::goes_on, refusal::proofs::Scans::ends))]
 fn check_points(fitting: FittingProblem) -> Result<(), Refusal>
-    ensures { result ≡ First.first (Checks.check_point (Problems.of fitting.entry.problem.now).points) 0
+    ensures { result ≡ FirstRefusal.first_refusal_from (Checks.check_point (Problems.of fitting.entry.problem.now).points) 0
         (Problems.count (Problems.of fitting.entry.problem.now)) }
 {
     for index in 0..fitting.count() {
@@ -211,9 +211,9 @@ fn check_points(fitting: FittingProblem) -> Result<(), Refusal>
 }
 
 // Rows 8 and 9
-#[tactic(auto, unfolding(crate::specs::Checks::check_seen))]
+#[tactic(auto, unfolding(crate::specs::Checks::check_both_views))]
 fn check_seen(fitting: FittingProblem) -> Result<(), Refusal>
-    ensures { result ≡ Checks.check_seen (Problems.of fitting.entry.problem.now) }
+    ensures { result ≡ Checks.check_both_views (Problems.of fitting.entry.problem.now) }
 {
     check_view(fitting, View::First)?;
     check_view(fitting, View::Second)?;
@@ -223,7 +223,7 @@ fn check_seen(fitting: FittingProblem) -> Result<(), Refusal>
 // Row 8 for one view
 #[tactic(auto, using(refusal::proofs::Scans::leaves, refusal::proofs::Scans::goes_on, refusal::proofs::Scans::ends))]
 fn check_view(fitting: FittingProblem, view: View) -> Result<(), Refusal>
-    ensures { result ≡ First.first (Checks.check_observation (Problems.of fitting.entry.problem.now) view) 0
+    ensures { result ≡ FirstRefusal.first_refusal_from (Checks.check_observation (Problems.of fitting.entry.problem.now) view) 0
         (Problems.count (Problems.of fitting.entry.problem.now)) }
 {
     for index in 0..fitting.count() {
@@ -238,7 +238,7 @@ fn check_view(fitting: FittingProblem, view: View) -> Result<(), Refusal>
 // Row 9: both loops are left at the first view that does not project.
 #[tactic(auto, using(refusal::proofs::Scans::leaves, refusal::proofs::Scans::goes_on, refusal::proofs::Scans::ends))]
 fn check_projections(fitting: FittingProblem) -> Result<(), Refusal>
-    ensures { result ≡ First.first (Checks.check_projection (Problems.of fitting.entry.problem.now)) 0
+    ensures { result ≡ FirstRefusal.first_refusal_from (Checks.check_projection (Problems.of fitting.entry.problem.now)) 0
         (Problems.count (Problems.of fitting.entry.problem.now)) }
 {
     let mut checked = Ok(());

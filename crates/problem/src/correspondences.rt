@@ -30,7 +30,7 @@ pub struct Problem<'a> {
 #[derive(Clone, Copy)]
 pub struct FittingProblem<'a> {
     pub problem: &'a Problem<'a>,
-    pub ghost fits: { Checks.Fits (Problems.of problem.now) },
+    pub ghost fits: { Checks.HasMatchingLengths (Problems.of problem.now) },
 }
 
 /// One point of such a problem

@@ -20,9 +20,9 @@ enum Grade {
 }
 
 impl Grade {
-    #[tactic(auto, unfolding(crate::specs::Letters::of))]
+    #[tactic(auto, unfolding(crate::specs::Letters::quality_of))]
     fn of(local: LocalLinearization, damping: ValidDamping) -> Self
-        ensures { result ≡ Letters.of local damping }
+        ensures { result ≡ Letters.quality_of local damping }
     {
         let Ok(factor) = PointBlockFactor::factor(local.point_hessian, damping) else {
             return Grade::NotFactored;
@@ -38,7 +38,7 @@ impl Grade {
     }
 
     fn byte(self) -> u8
-        ensures { result ≡ Letters.byte self }
+        ensures { result ≡ Letters.letter_byte self }
     {
         match self {
             Grade::NotFactored => b'n',
@@ -52,9 +52,9 @@ impl Grade {
 /// The letter of a block at a damping: `n` does not factor; at damping zero `w` is weak and `g`
 /// good; at
 /// other dampings `f` factors.
-#[tactic(auto, unfolding(crate::specs::Letters::letter))]
+#[tactic(auto, unfolding(crate::specs::Letters::letter_of))]
 pub fn letter(local: LocalLinearization, damping: ValidDamping) -> u8
-    ensures { result ≡ Letters.letter local damping }
+    ensures { result ≡ Letters.letter_of local damping }
 {
     Grade::of(local, damping).byte()
 }

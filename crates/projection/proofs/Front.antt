@@ -8,10 +8,10 @@ use lib.Ieee.{Float, binary64, lt, le, neg, fits}
 use lib.Ieee.Fits.{and_l, and_r, and_i}
 use Rattle.std.proofs.lemmas.Bool.{false_from_ne_true}
 use Rattle.std.proofs.lemmas.Float.{lt_of_le_of_lt}
-use Rattle.numerics.specs.Binary64.{◌⊗◌, zero, epsilon64}
-use Rattle.numerics.specs.Parts.{is_finite, abs}
+use Rattle.numerics.specs.Binary64.{◌⊗◌, zero, relative_tolerance}
+use Rattle.numerics.specs.Classify.{is_finite, abs}
 use Rattle.numerics.specs.Vectors.{all_finite}
-use Rattle.numerics.specs.Extrema.{largest}
+use Rattle.numerics.specs.Extrema.{fold_max}
 use Rattle.numerics.proofs.Order.{not_lt, nonneg_not_nan}
 use Rattle.numerics.proofs.Monotone.{finite_not_nan, zero-le}
 use Rattle.numerics.proofs.Finite.{finite_mul}
@@ -22,20 +22,20 @@ use Rattle.numerics.proofs.Scaled.{floor_below, floor_below_itself}
 module _ (x y z : Float) (p : T (fits binary64 z)) where
   -- 64ε of the absolute value of a coordinate is below the depth
   abbrev near : Float → Bool
-  near u = lt (abs (epsilon64 ⊗ u)) z
+  near u = lt (abs (relative_tolerance ⊗ u)) z
 
   abbrev sizes : List Float
   sizes = abs x ∷ abs y ∷ abs z ∷ []
 
   abbrev limit : Float
-  limit = epsilon64 ⊗ largest sizes
+  limit = relative_tolerance ⊗ fold_max sizes
 
-  near_finite : (u : Float) → T (near u) → T (is_finite (epsilon64 ⊗ u)) × T (is_finite u)
-  near_finite u h = let k = finite_below (epsilon64 ⊗ u) z h in (k, (finite_mul binary64 epsilon64 u k).1)
+  near_finite : (u : Float) → T (near u) → T (is_finite (relative_tolerance ⊗ u)) × T (is_finite u)
+  near_finite u h = let k = finite_below (relative_tolerance ⊗ u) z h in (k, (finite_mul binary64 relative_tolerance u k).1)
 
   depth_positive : T (near z) → T (lt zero z)
   depth_positive h =
-      let u = epsilon64 ⊗ z in
+      let u = relative_tolerance ⊗ z in
       lt_of_le_of_lt zero (abs u) z (zero-le (abs u) (nonneg_abs u (finite_not_nan u (near_finite z h).0))) h
 
   -- o is implied
@@ -71,5 +71,5 @@ module _ (x y z : Float) (p : T (fits binary64 z)) where
 
   -- by five comparisons
   pub front_by_comparisons : (is_finite x && is_finite y && is_finite z && not (le z limit))
-      ≡ (lt (epsilon64 ⊗ z) z && (lt (epsilon64 ⊗ x) z && lt (neg z) (epsilon64 ⊗ x)) && (lt (epsilon64 ⊗ y) z && lt (neg z) (epsilon64 ⊗ y)))
-  front_by_comparisons = front ∙ rw (floor_below_itself z p, abs_below (epsilon64 ⊗ x) z, abs_below (epsilon64 ⊗ y) z) refl
+      ≡ (lt (relative_tolerance ⊗ z) z && (lt (relative_tolerance ⊗ x) z && lt (neg z) (relative_tolerance ⊗ x)) && (lt (relative_tolerance ⊗ y) z && lt (neg z) (relative_tolerance ⊗ y)))
+  front_by_comparisons = front ∙ rw (floor_below_itself z p, abs_below (relative_tolerance ⊗ x) z, abs_below (relative_tolerance ⊗ y) z) refl

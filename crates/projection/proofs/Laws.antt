@@ -8,25 +8,25 @@ use lib.Ieee.Fits.{and_l, and_r}
 use Rattle.std.specs.Prelude.{Result, Ok, Err, is_ok}
 use Rattle.refusal.specs.declared.Refusal.{Refusal}
 use Rattle.refusal.specs.declared.Refusal.TheVariants.{LoneProjection}
-use Rattle.numerics.specs.Parts.{is_finite}
+use Rattle.numerics.specs.Classify.{is_finite}
 use Rattle.numerics.specs.Vectors.{◌!◌}
 use Rattle.numerics.proofs.Finite.{finite_sub}
 use Rattle.projection.specs.declared.PinholeCamera.{PinholeCamera}
 use Rattle.projection.specs.declared.Projected.{Projected}
-use Rattle.projection.specs.Projection.{in_front, linearized, all_finite, pixel_projection}
+use Rattle.projection.specs.PixelProjection.{is_in_front, residual_and_jacobian, all_finite, pixel_projection}
 
 -- a point that is not in front is refused
-pub behind : (camera : PinholeCamera) (observation point : List Float) → in_front point ≡ false → pixel_projection camera observation point ≡ Err LoneProjection
+pub behind : (camera : PinholeCamera) (observation point : List Float) → is_in_front point ≡ false → pixel_projection camera observation point ≡ Err LoneProjection
 unfolding pixel_projection
 behind camera observation point e = rw e refl
 
 -- what is projected are the formulas' numbers
-pub projected_is : (camera : PinholeCamera) (observation point : List Float) (p : Projected) → pixel_projection camera observation point ≡ Ok p → p ≡ linearized camera observation point
+pub projected_is : (camera : PinholeCamera) (observation point : List Float) (p : Projected) → pixel_projection camera observation point ≡ Ok p → p ≡ residual_and_jacobian camera observation point
 unfolding pixel_projection
-projected_is camera observation point p = by (in_front point) (all_finite q)
+projected_is camera observation point p = by (is_in_front point) (all_finite q)
   where
     q : Projected
-    q = linearized camera observation point
+    q = residual_and_jacobian camera observation point
 
     by : (f g : Bool) → cond f (cond g (Ok q) (Err LoneProjection)) (Err LoneProjection) ≡ Ok p → p ≡ q
     by true true h = cc
@@ -36,10 +36,10 @@ projected_is camera observation point p = by (in_front point) (all_finite q)
 -- where nothing is refused, the residual and the Jacobian are finite
 pub projection_finite : (camera : PinholeCamera) (observation point : List Float) (p : Projected) → pixel_projection camera observation point ≡ Ok p → T (all_finite p)
 unfolding pixel_projection
-projection_finite camera observation point p = by (in_front point) (all_finite q) refl
+projection_finite camera observation point p = by (is_in_front point) (all_finite q) refl
   where
     q : Projected
-    q = linearized camera observation point
+    q = residual_and_jacobian camera observation point
 
     by : (f g : Bool) → all_finite q ≡ g → cond f (cond g (Ok q) (Err LoneProjection)) (Err LoneProjection) ≡ Ok p → T (all_finite p)
     by true true e h = let k : q ≡ p = cc in rw (← k, e) tt
@@ -49,11 +49,11 @@ projection_finite camera observation point p = by (in_front point) (all_finite q
 -- what is let through, and by which tests
 module _ (camera : PinholeCamera) (observation point : List Float) where
   abbrev tested : Projected
-  tested = linearized camera observation point
+  tested = residual_and_jacobian camera observation point
 
-  pub projectable_is : (in_front point && all_finite tested) ≡ is_ok (pixel_projection camera observation point)
+  pub projectable_is : (is_in_front point && all_finite tested) ≡ is_ok (pixel_projection camera observation point)
   unfolding pixel_projection
-  projectable_is = by (in_front point) (all_finite tested)
+  projectable_is = by (is_in_front point) (all_finite tested)
     where
       by : (f g : Bool) → (f && g) ≡ is_ok (cond f (cond g (Ok tested) (Err LoneProjection)) (Err LoneProjection))
       by true true = refl
@@ -69,7 +69,7 @@ module _ (camera : PinholeCamera) (observation point : List Float) where
 
   pub refused : is_ok (pixel_projection camera observation point) ≡ false → Err LoneProjection ≡ pixel_projection camera observation point
   unfolding pixel_projection
-  refused = by (in_front point) (all_finite tested)
+  refused = by (is_in_front point) (all_finite tested)
     where
       by : (f g : Bool) → is_ok (cond f (cond g (Ok tested) (Err LoneProjection)) (Err LoneProjection)) ≡ false → Err LoneProjection ≡ cond f (cond g (Ok tested) (Err LoneProjection)) (Err LoneProjection)
       by true true t = absurd (cc)
@@ -77,8 +77,8 @@ module _ (camera : PinholeCamera) (observation point : List Float) where
       by false g t = refl
 
 -- what a point in front of the camera has: finite coordinates
-pub front_finite : (p : List Float) → T (in_front p) → T (is_finite (p ! 0)) × T (is_finite (p ! 1)) × T (is_finite (p ! 2))
-unfolding in_front
+pub front_finite : (p : List Float) → T (is_in_front p) → T (is_finite (p ! 0)) × T (is_finite (p ! 1)) × T (is_finite (p ! 2))
+unfolding is_in_front
 front_finite p h =
     let A = is_finite (p ! 0) in
     let B = is_finite (p ! 1) in
@@ -88,14 +88,14 @@ front_finite p h =
 
 -- what is let through had finite coordinates and a finite observation
 module _ (camera : PinholeCamera) (observation point : List Float) (e : is_ok (pixel_projection camera observation point) ≡ true) where
-  tests : T (in_front point && all_finite (linearized camera observation point))
+  tests : T (is_in_front point && all_finite (residual_and_jacobian camera observation point))
   tests = subst T (sym (projectable_is camera observation point ∙ e)) tt
 
   pub point_finite : T (is_finite (point ! 0)) × T (is_finite (point ! 1)) × T (is_finite (point ! 2))
   point_finite = front_finite point (and_l _ _ tests)
 
   pub observation_finite : T (is_finite (observation ! 0)) × T (is_finite (observation ! 1))
-  unfolding all_finite linearized
+  unfolding all_finite residual_and_jacobian
   observation_finite =
-      let residual = and_l _ _ (and_l _ _ (and_l _ _ (and_l _ _ (and_l _ _ (and_l _ _ (and_r (in_front point) _ tests)))))) in
+      let residual = and_l _ _ (and_l _ _ (and_l _ _ (and_l _ _ (and_l _ _ (and_l _ _ (and_r (is_in_front point) _ tests)))))) in
       ((finite_sub binary64 _ _ (and_l _ _ residual)).1, (finite_sub binary64 _ _ (and_r _ _ residual)).1)

@@ -11,12 +11,12 @@ use lib.Ieee.Bits.{is_true}
 use Rattle.std.specs.Prelude.{Err}
 use Rattle.refusal.specs.declared.Refusal.TheVariants.{LoneProjection}
 use Rattle.numerics.specs.Binary64.{◌⊕◌, ◌⊗◌}
-use Rattle.numerics.specs.Parts.{is_finite}
+use Rattle.numerics.specs.Classify.{is_finite}
 use Rattle.numerics.specs.Vectors.{◌!◌}
 use Rattle.numerics.proofs.Finite.{finite_add, finite_mul}
 use Rattle.projection.specs.declared.PinholeCamera.{PinholeCamera}
-use Rattle.projection.specs.Projection.{in_front, pixel_projection}
-use Rattle.projection.specs.Pose.{rotate, camera_point, NonFinitePoseIsNotProjectable}
+use Rattle.projection.specs.PixelProjection.{is_in_front, pixel_projection}
+use Rattle.projection.specs.CameraFrame.{rotate, camera_point, NonFinitePoseIsNotProjectable}
 use Rattle.projection.proofs.Laws.{behind, front_finite}
 
 -- a row of the rotation with its part of the translation
@@ -42,7 +42,7 @@ module _ (rotation translation point : List Float) where
   abbrev moved : List Float
   moved = camera_point (rotate rotation point) translation
 
-  module _ (h : T (in_front moved)) where
+  module _ (h : T (is_in_front moved)) where
     row₀ : FiniteRow (rotation ! 0) (rotation ! 1) (rotation ! 2) (translation ! 0)
     unfolding rotate camera_point
     row₀ = finite_row _ _ _ _ (point ! 0) (point ! 1) (point ! 2) (front_finite moved h).0
@@ -74,11 +74,11 @@ module _ (rotation translation point : List Float) where
     translation_finite (suc (suc (suc i))) l = absurd (omega arith)
 
   -- where being in front would make x finite and it is not, nothing is projected
-  refused : (x : Float) → (T (in_front moved) → T (is_finite x)) → is_finite x ≡ false → (camera : PinholeCamera) (observation : List Float)
+  refused : (x : Float) → (T (is_in_front moved) → T (is_finite x)) → is_finite x ≡ false → (camera : PinholeCamera) (observation : List Float)
       → pixel_projection camera observation moved ≡ Err LoneProjection
-  refused x k n camera observation = by (in_front moved) refl k
+  refused x k n camera observation = by (is_in_front moved) refl k
     where
-      by : (b : Bool) → in_front moved ≡ b → (T b → T (is_finite x)) → pixel_projection camera observation moved ≡ Err LoneProjection
+      by : (b : Bool) → is_in_front moved ≡ b → (T b → T (is_finite x)) → pixel_projection camera observation moved ≡ Err LoneProjection
       by true e k = absurd (true≢false (sym (is_true (is_finite x) (k tt)) ∙ n))
       by false e k = behind camera observation moved e
 

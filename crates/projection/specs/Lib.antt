@@ -1,3 +1,3 @@
 -- The pixel half of projection.rs, and a point in the second camera's frame.
-pub mod Projection
-pub mod Pose
+pub mod PixelProjection
+pub mod CameraFrame

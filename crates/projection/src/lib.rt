@@ -17,9 +17,9 @@
 mod camera_frame;
 
 ghost use Rattle.std.specs.Prelude.{◌≡◌, [], ◌∷◌};
-ghost use Rattle.refusal.specs.Answer.{answer};
-ghost use Rattle.projection.specs.Projection as Projection;
-ghost use Rattle.projection.specs.Projection.{no_projection};
+ghost use Rattle.refusal.specs.Outcome.{outcome};
+ghost use Rattle.projection.specs.PixelProjection as PixelProjection;
+ghost use Rattle.projection.specs.PixelProjection.{zero_projection};
 
 pub use camera_frame::{camera_point, non_finite_pose_is_not_projectable, rotate};
 use refusal::Refusal;
@@ -60,9 +60,9 @@ pub fn pixel_projection(
     observation: [f64; 2],
     point: [f64; 3],
 ) -> Result<Projected, Refusal>
-    ensures result { result ≡ Projection.pixel_projection camera.now observation point }
-    ensures answer { answer no_projection result
-        ≡ answer no_projection (Projection.pixel_projection camera.now observation point) }
+    ensures result { result ≡ PixelProjection.pixel_projection camera.now observation point }
+    ensures outcome { outcome zero_projection result
+        ≡ outcome zero_projection (PixelProjection.pixel_projection camera.now observation point) }
 {
     let TestedProjection {
         projected,
@@ -83,7 +83,7 @@ pub fn tested_projection(
     observation: [f64; 2],
     point: [f64; 3],
 ) -> TestedProjection
-    ensures { result ≡ Projection.tested_projection camera.now observation point }
+    ensures { result ≡ PixelProjection.tested_projection camera.now observation point }
 {
     let projected = linearized(camera, observation, point);
     TestedProjection {
@@ -94,10 +94,10 @@ pub fn tested_projection(
 
 // Whether the coordinates are finite and the depth is above 64ε of the largest absolute value of
 // them. Always inlined, so that the coordinates stay in registers.
-#[tactic(auto, unfolding(crate::specs::Projection::in_front))]
+#[tactic(auto, unfolding(crate::specs::PixelProjection::is_in_front))]
 #[inline(always)]
 fn in_front(point: [f64; 3]) -> bool
-    ensures { result ≡ Projection.in_front point }
+    ensures { result ≡ PixelProjection.is_in_front point }
 {
     in_front_of(point[0], point[1], point[2])
 }
@@ -107,7 +107,7 @@ fn in_front(point: [f64; 3]) -> bool
 // of z is below z, z is above 0, so that its own negative need not be asked.
 #[inline(always)]
 fn in_front_of(x: f64, y: f64, z: f64) -> bool
-    ensures { result ≡ Projection.in_front (x ∷ y ∷ z ∷ []) }
+    ensures { result ≡ PixelProjection.is_in_front (x ∷ y ∷ z ∷ []) }
 {
     let right = numerics::EPSILON64 * x;
     let down = numerics::EPSILON64 * y;
@@ -115,10 +115,10 @@ fn in_front_of(x: f64, y: f64, z: f64) -> bool
 }
 
 // The residual and the Jacobian by the formulas alone
-#[tactic(auto, unfolding(crate::specs::Projection::linearized))]
+#[tactic(auto, unfolding(crate::specs::PixelProjection::residual_and_jacobian))]
 #[inline(always)]
 fn linearized(camera: &PinholeCamera, observation: [f64; 2], point: [f64; 3]) -> Projected
-    ensures { result ≡ Projection.linearized camera.now observation point }
+    ensures { result ≡ PixelProjection.residual_and_jacobian camera.now observation point }
 {
     let inverse_depth = numerics::recip(point[2]);
     let inverse_depth_squared = inverse_depth * inverse_depth;
@@ -143,7 +143,7 @@ fn linearized(camera: &PinholeCamera, observation: [f64; 2], point: [f64; 3]) ->
 // registers.
 #[inline(always)]
 fn all_finite(projected: Projected) -> bool
-    ensures { result ≡ Projection.all_finite projected }
+    ensures { result ≡ PixelProjection.all_finite projected }
 {
     let r = projected.residual;
     let j = projected.jacobian;

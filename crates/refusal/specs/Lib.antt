@@ -1,5 +1,5 @@
 -- The rows, a refusal, what a call answers, and the first refusal of several.
-pub mod Rows
-pub mod Refused
-pub mod Answer
-pub mod First
+pub mod RowNumbers
+pub mod RefusalRow
+pub mod Outcome
+pub mod FirstRefusal

@@ -4,7 +4,7 @@
 #![tactic(auto)]
 
 ghost use Rattle.std.specs.Prelude.{◌≡◌, Some};
-ghost use Rattle.refusal.specs.Refused as Refused;
+ghost use Rattle.refusal.specs.RefusalRow as RefusalRow;
 
 use std::error::Error;
 use std::fmt;
@@ -50,7 +50,7 @@ pub struct Row {
 
 impl View {
     fn number(self) -> u32
-        ensures { result ≡ Refused.view_number self }
+        ensures { result ≡ RefusalRow.view_number self }
     {
         match self {
             View::First => 1,
@@ -61,9 +61,9 @@ impl View {
 
 impl Refusal {
     /// The refusal by its numbers.
-    #[tactic(auto, unfolding(crate::specs::Refused::row))]
+    #[tactic(auto, unfolding(crate::specs::RefusalRow::row))]
     pub fn row(self) -> Row
-        ensures { result ≡ Refused.row self }
+        ensures { result ≡ RefusalRow.row self }
     {
         match self {
             Refusal::Lengths => Row::of(1),
@@ -88,7 +88,7 @@ impl Refusal {
 
 /// Writes `refused`, the number, the view and the index.
 impl fmt::Display for Refusal {
-    ghost output = { λ refusal. Some (Refused.text refusal) };
+    ghost output = { λ refusal. Some (RefusalRow.refusal_text refusal) };
 
     fn fmt<W: fmt::Write>(&self, f: &mut fmt::Formatter<W>) -> fmt::Result {
         let row = self.row();
@@ -101,7 +101,7 @@ impl Error for Refusal {}
 impl Row {
     // The one place where a row is made
     fn at(number: u32, view: u32, index: u32) -> Self
-        ensures { result ≡ Refused.at number view index }
+        ensures { result ≡ RefusalRow.row_at number view index }
     {
         Self {
             number,
@@ -112,7 +112,7 @@ impl Row {
 
     // A row that names neither view nor index
     fn of(number: u32) -> Self
-        ensures { result ≡ Refused.of number }
+        ensures { result ≡ RefusalRow.row_of number }
     {
         Self::at(number, 0, 0)
     }

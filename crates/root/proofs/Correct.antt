@@ -12,9 +12,9 @@ use lib.Ieee.Digits.{size-lt, size-le, size_reaches}
 use lib.Ieee.Exact.{HasValue}
 use lib.Ieee.Positive.{first_pos}
 use Rattle.numerics.specs.Binary64 as Binary64
-use Rattle.numerics.specs.Parts.{is_finite, nonneg, magnitude}
-use Rattle.root.specs.Whole.{NearestRoot}
-use Rattle.root.specs.Root.{whole_root, nearest_root, sqrt, CorrectlyRounded}
+use Rattle.numerics.specs.Classify.{is_finite, is_nonnegative, magnitude}
+use Rattle.root.specs.Whole.{IsNearestRoot}
+use Rattle.root.specs.Root.{whole_root, nearest_root, sqrt, IsCorrectlyRounded}
 use native.Mathlib.Numerals.{add-one}
 use Rattle.root.proofs.Whole.{whole_root_is, nearest_is, square_lt, next_square, twice_square, middle_square}
 use Rattle.root.proofs.Patterns.{Grid, grid, magnitude_of}
@@ -76,7 +76,7 @@ square_le : {a b : ℕ} → a ≤ b → a * a ≤ b * b
 square_le h = mul-le-mul h h
 
 -- r * 2 ^ k is where the root of d * 2 ^ (2 * k) was rounded to, and t * 2 ^ j is any other value
-module _ (d k r t j : ℕ) (low_d : 2 ^ 104 ≤ d) (low_r : 2 ^ 52 ≤ r) (near : NearestRoot d r) (few : t < 2 ^ 53) where
+module _ (d k r t j : ℕ) (low_d : 2 ^ 104 ≤ d) (low_r : 2 ^ 52 ≤ r) (near : IsNearestRoot d r) (few : t < 2 ^ 53) where
   abbrev K : ℕ
   K = 2 ^ k
 
@@ -166,8 +166,8 @@ value_finite nan a c h = h
 value_finite (inf s) a c h = h
 value_finite (fin s m e) a c h = tt
 
-value_nonneg : (x : Float) (a c : ℕ) → HasValue x false a c → T (nonneg x)
-unfolding nonneg
+value_nonneg : (x : Float) (a c : ℕ) → HasValue x false a c → T (is_nonnegative x)
+unfolding is_nonnegative
 value_nonneg nan a c h = h
 value_nonneg (inf s) a c h = absurd h
 value_nonneg (fin s m e) a c h = rw h.0 tt
@@ -184,7 +184,7 @@ above_zero (fin false m e) s a l h = (sym h.0, first_pos a (down e) (subst (λ (
     some n z q = lt_of_le_of_lt zero-le (lt_of_lt_of_le (ltb→lt z (n * 1) q) (le_of_eq (mul-one n)))
 
 module _ (x : Float) (n d k r : ℕ) (is : sqrt x ≡ nearest_root n) (counts : magnitude x * 2 ^ 1074 ≡ n) (e : n ≡ d * 2 ^ (2 * k)) (lo : 2 ^ 104 ≤ d) (hi : d < 2 ^ 106)
-    (near : NearestRoot d r) (small : k < 2000) where
+    (near : IsNearestRoot d r) (small : k < 2000) where
   low_r : 2 ^ 52 ≤ r
   low_r = root_low n d k r e lo hi near
 
@@ -197,7 +197,7 @@ module _ (x : Float) (n d k r : ℕ) (is : sqrt x ≡ nearest_root n) (counts : 
   rounded : magnitude (sqrt x) ≡ r * 2 ^ k
   rounded = magnitude_of (sqrt x) false (r * 2 ^ k) value
 
-  correct : CorrectlyRounded x (sqrt x)
+  correct : IsCorrectlyRounded x (sqrt x)
   correct = record {
     held = rw is (root_fits n d k r e lo hi near small);
     finite = value_finite (sqrt x) (r * 2 ^ k) (2 ^ low binary64) value;
@@ -213,10 +213,10 @@ module _ (x : Float) (n d k r : ℕ) (is : sqrt x ≡ nearest_root n) (counts : 
   }
 
 -- The square root of every finite binary64 above zero is IEEE 754's.
-pub sqrt_correct : (x : Float) → T (fits binary64 x) → T (is_finite x) → T (lt Binary64.zero x) → CorrectlyRounded x (sqrt x)
+pub sqrt_correct : (x : Float) → T (fits binary64 x) → T (is_finite x) → T (lt Binary64.zero x) → IsCorrectlyRounded x (sqrt x)
 sqrt_correct x held finite positive = go (grid x held finite)
   where
-    go : Grid x → CorrectlyRounded x (sqrt x)
+    go : Grid x → IsCorrectlyRounded x (sqrt x)
     go g =
         let t = g.count in
         let j = g.place in

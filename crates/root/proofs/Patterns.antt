@@ -10,7 +10,7 @@ use lib.Ieee.{Float, nan, inf, fin, binary64, low, down, size, odd, of_fields, o
 use lib.Ieee.Bits.{of_bits-to_bits}
 use lib.Ieee.Exact.{HasValue, odd_sign}
 use lib.Ieee.Fits.{down_pos}
-use Rattle.numerics.specs.Parts.{is_finite, magnitude}
+use Rattle.numerics.specs.Classify.{is_finite, magnitude}
 
 pub magnitude_of : (x : Float) (s : Bool) (a : ℕ) → HasValue x s a (2 ^ low binary64) → magnitude x ≡ a
 unfolding magnitude

@@ -12,9 +12,9 @@ use lib.Ieee.Order.{le_of_values}
 use Rattle.std.proofs.lemmas.Float.{le_trans, lt_of_lt_of_le}
 use lib.Ieee.Bits.{is_true, of_bits-to_bits, nan_bits_is}
 use Rattle.numerics.specs.Binary64 as Binary64
-use Rattle.numerics.specs.Parts.{is_finite}
+use Rattle.numerics.specs.Classify.{is_finite}
 use Rattle.numerics.proofs.Monotone.{finite_not_nan}
-use Rattle.root.specs.Root.{nearest_root, sqrt, CorrectlyRounded}
+use Rattle.root.specs.Root.{nearest_root, sqrt, IsCorrectlyRounded}
 use Rattle.root.proofs.Patterns.{low_value, normal_value, plain_finite}
 use Rattle.root.proofs.Rounded.{sqrt_of}
 use Rattle.root.proofs.Correct.{sqrt_correct}
@@ -67,10 +67,10 @@ low_of_least x f h = go (to_bits binary64 x) (leb (2 ^ 52) (to_bits binary64 x))
     go b false l g e = absurd (le_trans least x last (subst T (sym h) tt) (subst (λ (y : Float). T (le y last)) e (at_most b (g tt))))
 
 -- the root of a finite one is IEEE 754's, and so it has a pattern that is read back
-correct : (x : Float) → T (fits binary64 x) → lt Binary64.zero x ≡ true → to_bits binary64 x < 0x7ff0_0000_0000_0000 → CorrectlyRounded x (sqrt x)
+correct : (x : Float) → T (fits binary64 x) → lt Binary64.zero x ≡ true → to_bits binary64 x < 0x7ff0_0000_0000_0000 → IsCorrectlyRounded x (sqrt x)
 correct x f l h = sqrt_correct x f (subst (λ (y : Float). T (is_finite y)) (of_bits-to_bits binary64 x f) (plain_finite (to_bits binary64 x) h)) (subst T (sym l) tt)
 
-no_nan_bits : (x : Float) → CorrectlyRounded x (sqrt x) → T (not (nan_bits binary64 (to_bits binary64 (sqrt x))))
+no_nan_bits : (x : Float) → IsCorrectlyRounded x (sqrt x) → T (not (nan_bits binary64 (to_bits binary64 (sqrt x))))
 no_nan_bits x c =
     subst (λ (b : Bool). T (not b))
     (sym (nan_bits_is binary64 (to_bits binary64 (sqrt x)) ∙ ap is_nan (of_bits-to_bits binary64 (sqrt x) c.held)))
@@ -78,7 +78,7 @@ no_nan_bits x c =
 
 -- what the pattern's root is, read back
 module _ (x : Float) (f : T (fits binary64 x)) (above : lt Binary64.zero x ≡ true) (plain : to_bits binary64 x < 0x7ff0_0000_0000_0000) where
-  rounded : CorrectlyRounded x (sqrt x)
+  rounded : IsCorrectlyRounded x (sqrt x)
   rounded = correct x f above plain
 
   bits : (r : ℕ) → r ≡ to_bits binary64 (sqrt (of_bits binary64 (to_bits binary64 x))) → r ≡ to_bits binary64 (sqrt x)

@@ -12,7 +12,7 @@ use lib.Ieee.{Float, binary64, low, size, nearest, odd, units, fits, to_bits, na
 use lib.Ieee.Digits.{size-lt, size-le}
 use lib.Ieee.Exact.{HasValue, units_val}
 use lib.Ieee.Fits.{odd-fits, down_pos}
-use Rattle.root.specs.Whole.{NearestRoot}
+use Rattle.root.specs.Whole.{IsNearestRoot}
 use Rattle.root.specs.Root.{whole_root, rounded_root, nearest_root, sqrt}
 use Rattle.root.proofs.Whole.{whole_root_is, nearest_is, nearest_unique, nearest_low, nearest_high}
 use Rattle.root.proofs.Patterns.{magnitude_of, to_bits_of}
@@ -56,7 +56,7 @@ packed q k lo hi = go (eq-or-lt_of_le hi)
         ∙ omega arith
     go (inr l) = normal (q * 2 ^ k) q k refl lo l
 
-module _ (n d k r : ℕ) (e : n ≡ d * 2 ^ (2 * k)) (lo : 2 ^ 104 ≤ d) (hi : d < 2 ^ 106) (near : NearestRoot d r) where
+module _ (n d k r : ℕ) (e : n ≡ d * 2 ^ (2 * k)) (lo : 2 ^ 104 ≤ d) (hi : d < 2 ^ 106) (near : IsNearestRoot d r) where
   dropped : (size n + 1) / 2 - 53 ≡ k
   dropped =
       halved (size n) k

@@ -8,7 +8,7 @@ use native.Mathlib.Numerals.{add-one}
 use native.Mathlib.Omega.{arith}
 use lib.Dec.{T, is_le, compare_is_eq, leb, leb→le, nleb→lt, eqb→eq, lit<}
 use lib.Ieee.{nearest}
-use Rattle.root.specs.Whole.{WholeRoot, NearestRoot}
+use Rattle.root.specs.Whole.{IsWholeRoot, IsNearestRoot}
 use Rattle.root.specs.Root.{whole_root}
 
 ruleset sorted = (mul-add, add-mul, mul_comm, mul_assoc, mul_left_comm, add_assoc, add_comm, add_left_comm)
@@ -27,7 +27,7 @@ next_square r = simp sorted (let e : r * r + (r + (r + 1)) ≡ r * r + (1 + 2 * 
 
 -- ---- the nearest root is one number
 
-same_nearest : (n r s : ℕ) → NearestRoot n r → NearestRoot n s → r ≤ s
+same_nearest : (n r s : ℕ) → IsNearestRoot n r → IsNearestRoot n s → r ≤ s
 same_nearest n r s p q = go (leb r s) (leb→le r s) (nleb→lt r s)
   where
     go : (t : Bool) → (T t → r ≤ s) → (T (not t) → s < r) → r ≤ s
@@ -42,7 +42,7 @@ same_nearest n r s p q = go (leb r s) (leb→le r s) (nleb→lt r s)
         let b = q.high in
         absurd (omega arith)
 
-pub nearest_unique : (n r s : ℕ) → NearestRoot n r → NearestRoot n s → r ≡ s
+pub nearest_unique : (n r s : ℕ) → IsNearestRoot n r → IsNearestRoot n s → r ≡ s
 nearest_unique n r s p q = le_antisymm (same_nearest n r s p q) (same_nearest n s r q p)
 
 -- ---- the definition, digit by digit
@@ -50,15 +50,15 @@ nearest_unique n r s p q = le_antisymm (same_nearest n r s p q) (same_nearest n 
 pub twice_square : (q : ℕ) → 2 * q * (2 * q) ≡ 4 * (q * q)
 twice_square q = simp (mul_assoc, mul_left_comm) (sym (mul_assoc 2 2 (q * q)))
 
-pub whole_root_is : (d n : ℕ) → n < 4 ^ d → WholeRoot n (whole_root d n)
+pub whole_root_is : (d n : ℕ) → n < 4 ^ d → IsWholeRoot n (whole_root d n)
 unfolding whole_root
 whole_root_is zero n h = record { reached = omega arith; next = omega arith }
 whole_root_is (suc d) n h = go (whole_root d (n / 4)) (whole_root_is d (n / 4) ((div-lt_iff_lt-mul (lit< tt)).1 (rw (pow-suc 4 d) at h)))
   where
-    go : (q : ℕ) → WholeRoot (n / 4) q → WholeRoot n (cond (leb (suc (2 * q) * suc (2 * q)) n) (suc (2 * q)) (2 * q))
+    go : (q : ℕ) → IsWholeRoot (n / 4) q → IsWholeRoot n (cond (leb (suc (2 * q) * suc (2 * q)) n) (suc (2 * q)) (2 * q))
     go q w = by (leb (suc (2 * q) * suc (2 * q)) n) (leb→le (suc (2 * q) * suc (2 * q)) n) (nleb→lt (suc (2 * q) * suc (2 * q)) n)
       where
-        by : (t : Bool) → (T t → suc (2 * q) * suc (2 * q) ≤ n) → (T (not t) → n < suc (2 * q) * suc (2 * q)) → WholeRoot n (cond t (suc (2 * q)) (2 * q))
+        by : (t : Bool) → (T t → suc (2 * q) * suc (2 * q) ≤ n) → (T (not t) → n < suc (2 * q) * suc (2 * q)) → IsWholeRoot n (cond t (suc (2 * q)) (2 * q))
         by true l g =
             let e = next_square (suc (2 * q)) in
             let e' = rw add-one at (next_square (2 * q)) in
@@ -74,7 +74,7 @@ pub middle_square : (q : ℕ) → (2 * q + 1) * (2 * q + 1) ≡ 4 * (q * q) + 4 
 middle_square q = next_square (2 * q) ∙ (let e = twice_square q in omega arith)
 
 -- ---- the definition's rounding: q, or the next number, by how the middle of the two compares with the root
-pub nearest_is : (n q c : ℕ) → 0 < n → 0 < c → WholeRoot n q → NearestRoot n (nearest q (compare (4 * (n * c)) ((2 * q + 1) * (2 * q + 1) * c)))
+pub nearest_is : (n q c : ℕ) → 0 < n → 0 < c → IsWholeRoot n q → IsNearestRoot n (nearest q (compare (4 * (n * c)) ((2 * q + 1) * (2 * q + 1) * c)))
 nearest_is n q c N C w =
     let L = 4 * (n * c) in
     let R = (2 * q + 1) * (2 * q + 1) * c in
@@ -84,7 +84,7 @@ nearest_is n q c N C w =
     scaled = sym (mul_assoc 4 n c)
 
     go : (o : Ordering) → (T (is_le o) → 4 * (n * c) ≤ (2 * q + 1) * (2 * q + 1) * c) → (T (not (is_le o)) → (2 * q + 1) * (2 * q + 1) * c < 4 * (n * c))
-        → (T (compare_is_eq o) → 4 * (n * c) ≡ (2 * q + 1) * (2 * q + 1) * c) → NearestRoot n (nearest q o)
+        → (T (compare_is_eq o) → 4 * (n * c) ≡ (2 * q + 1) * (2 * q + 1) * c) → IsNearestRoot n (nearest q o)
     go Ordering.lt h k i =
         let m : 4 * n ≤ (2 * q + 1) * (2 * q + 1) = le_of_mul-le-mul_right (rw scaled at (h tt)) C in
         let e = middle_square q in
@@ -105,7 +105,7 @@ nearest_is n q c N C w =
         record { low = omega arith; high = omega arith }
 
 -- ---- the nearest root of what lies between two squares
-pub nearest_low : (n r p : ℕ) → p * p ≤ n → NearestRoot n r → p ≤ r
+pub nearest_low : (n r p : ℕ) → p * p ≤ n → IsNearestRoot n r → p ≤ r
 nearest_low n r p h w = go (leb p r) (leb→le p r) (nleb→lt p r)
   where
     go : (t : Bool) → (T t → p ≤ r) → (T (not t) → r < p) → p ≤ r
@@ -119,7 +119,7 @@ nearest_low n r p h w = go (leb p r) (leb→le p r) (nleb→lt p r)
         let b = w.high in
         absurd (omega arith)
 
-pub nearest_high : (n r p : ℕ) → n < p * p → NearestRoot n r → r ≤ p
+pub nearest_high : (n r p : ℕ) → n < p * p → IsNearestRoot n r → r ≤ p
 nearest_high n r p h w = go (leb r p) (leb→le r p) (nleb→lt r p)
   where
     go : (t : Bool) → (T t → r ≤ p) → (T (not t) → p < r) → r ≤ p

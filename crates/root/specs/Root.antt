@@ -4,7 +4,7 @@ use Prim.Native.Nat.{ℕ, zero, suc, ◌+◌, ◌-◌, ◌*◌, ◌/◌, ◌^◌
 use Rattle.std.specs.Prelude.{true, false, cond, T, leb, Float}
 use Rattle.std.specs.Float.{nan, inf, fin, binary64}
 use Rattle.std.specs.Float.Ieee.{size, nearest, units, fits}
-use Rattle.numerics.specs.Parts.{is_finite, nonneg, magnitude}
+use Rattle.numerics.specs.Classify.{is_finite, is_nonnegative, magnitude}
 
 -- the whole part of the root of an n below 4 ^ d, digit by digit
 unfoldable pub whole_root : ℕ → ℕ → ℕ
@@ -42,10 +42,10 @@ sqrt (fin false (suc m) e) = nearest_root (magnitude (fin false (suc m) e) * 2 ^
 -- from it if the middle of the two lies below the exact root, and a y above r if the middle lies
 -- above: squared, in units of 2 ^ -1074. No tie occurs, so each is strict. (A y below zero lies
 -- further away than +0.)
-pub record CorrectlyRounded (x r : Float) : Type 0 where
+pub record IsCorrectlyRounded (x r : Float) : Type 0 where
   pub held : T (fits binary64 r)
   pub finite : T (is_finite r)
-  pub signless : T (nonneg r)
+  pub signless : T (is_nonnegative r)
   pub below : (y : Float) → T (fits binary64 y) → T (is_finite y) → magnitude y < magnitude r
       → (magnitude y + magnitude r) * (magnitude y + magnitude r) < 4 * (magnitude x * 2 ^ 1074)
   pub above : (y : Float) → T (fits binary64 y) → T (is_finite y) → magnitude r < magnitude y

@@ -13,10 +13,10 @@ ghost use Rattle.std.specs.Float.Ieee as Ieee;
 ghost use Rattle.std.specs.Float.Ieee.{lt};
 ghost use Rattle.std.specs.Float.{binary64};
 ghost use Rattle.numerics.specs.Binary64.{zero};
-ghost use Rattle.numerics.specs.Parts.{is_finite};
+ghost use Rattle.numerics.specs.Classify.{is_finite};
 ghost use Rattle.root.specs.Root as Root;
-ghost use Rattle.root.specs.Root.{CorrectlyRounded};
-ghost use Rattle.root.specs.Whole.{NearestRoot};
+ghost use Rattle.root.specs.Root.{IsCorrectlyRounded};
+ghost use Rattle.root.specs.Whole.{IsNearestRoot};
 
 use table::ROWS;
 
@@ -33,7 +33,7 @@ const LEAD: u64 = 0x10_0000_0000_0000;
 #[inline(never)]
 pub fn sqrt(x: f64) -> f64
     ensures result { result ≡ Root.sqrt x }
-    ensures nearest { T (is_finite x) → T (lt zero x) → CorrectlyRounded x result }
+    ensures nearest { T (is_finite x) → T (lt zero x) → IsCorrectlyRounded x result }
 {
     if f64::MIN_POSITIVE <= x {
         let b = f64::to_bits(x);
@@ -101,8 +101,8 @@ fn radicand(m: u64, power: u64) -> u128
 // wraps to more than any 2 * root.
 fn is_nearest(n: u128, root: u64) -> bool
     requires { (0 < n) × (n < 2 ^ 106) }
-    ensures nearest { T result → NearestRoot n root }
-    ensures each { NearestRoot n root → T result }
+    ensures nearest { T result → IsNearestRoot n root }
+    ensures each { IsNearestRoot n root → T result }
 {
     let root = root as u128;
     (n + root - 1).wrapping_sub(root * root) < 2 * root
@@ -111,7 +111,7 @@ fn is_nearest(n: u128, root: u64) -> bool
 // The whole number nearest to the root of n, by steps up and then down from any number.
 fn search(n: u128, start: u64) -> u64
     requires { (0 < n) × (n < 2 ^ 106) }
-    ensures { NearestRoot n result }
+    ensures { IsNearestRoot n result }
 {
     let mut root = start as u128;
     while root * root + root < n {

@@ -12,12 +12,12 @@ use lib.Seq.{take_at}
 use lib.Ieee.{Float, binary64, to_bits}
 use Rattle.std.specs.Result.{result_and}
 use Rattle.std.specs.Prelude.{Ok, Err}
-use Rattle.refusal.specs.First.{Checked}
-use Rattle.refusal.specs.Refused.{row}
+use Rattle.refusal.specs.FirstRefusal.{CheckResult}
+use Rattle.refusal.specs.RefusalRow.{row}
 use Rattle.refusal.specs.declared.Refusal.{Refusal}
 use Rattle.refusal.proofs.Scans.{after_ok}
 use Rattle.problem.specs.Problem.{Problem, count}
-use Rattle.schur.specs.Model.{is_valid}
+use Rattle.schur.specs.Reduced.{is_valid}
 use Rattle.schur.specs.declared.reduced_system.ReducedSystem.{ReducedSystem}
 use Rattle.problem.specs.Checks as Checks
 use Rattle.optimizer.specs.Assembly.{block_at, reduced_system}
@@ -26,24 +26,24 @@ use Rattle.text.specs.Hex.{digits}
 use Rattle.run_record.specs.Fields.{point_fields}
 use Rattle.run_record.specs.Form as Form
 use Rattle.run_record.specs.Run.{run}
-use Rattle.text.specs.Text.{space, line_feed, digit, without_zeros, decimal, pasted, Put}
-use Rattle.problem.specs.Letters.{letter}
+use Rattle.text.specs.Text.{space, line_feed, digit, without_leading_zeros, decimal, with_text, PutsText}
+use Rattle.problem.specs.Letters.{letter_of}
 use Rattle.run_list.specs.Lines.{bits_then, run_line, point_line, refused_line}
 use Rattle.run_list.specs.SumLine.{validity, verdict, sum_line}
-use Rattle.run_list.specs.Lists.{point_lines, lines_of, check, listed, list, max_list, fits, NeverNan, Wrote}
+use Rattle.run_list.specs.Lists.{point_lines, lines_of, check_record, lines_or_refusal, list, max_list, fits_in, NeverNan, WritesList}
 use Rattle.run_record.proofs.Forms.{formed, few_points}
 use Rattle.run_record.proofs.Points.{count_points}
 use Rattle.text.proofs.Puts.{put_fits, put_length}
 
 -- ---- decimals
 
-shorter : (k : ℕ) (l : List ℕ) → length (without_zeros k l) ≤ length l
-unfolding without_zeros
+shorter : (k : ℕ) (l : List ℕ) → length (without_leading_zeros k l) ≤ length l
+unfolding without_leading_zeros
 shorter zero l = omega arith
 shorter (suc k) [] = omega arith
 shorter (suc k) (d ∷ l) = by (eqb d 48) (shorter k l)
   where
-    by : (b : Bool) → length (without_zeros k l) ≤ length l → length (cond b (without_zeros k l) (d ∷ l)) ≤ suc (length l)
+    by : (b : Bool) → length (without_leading_zeros k l) ≤ length l → length (cond b (without_leading_zeros k l) (d ∷ l)) ≤ suc (length l)
     by true h = omega arith
     by false h = omega arith
 
@@ -52,8 +52,8 @@ unfolding decimal
 ten n = shorter 9 _
 
 -- of a number below 1,000 three digits are left
-small : (n : ℕ) → n < 1000 → decimal n ≡ without_zeros 2 (digit (n / 100) ∷ digit (n / 10) ∷ digit n ∷ [])
-unfolding decimal without_zeros
+small : (n : ℕ) → n < 1000 → decimal n ≡ without_leading_zeros 2 (digit (n / 100) ∷ digit (n / 10) ∷ digit n ∷ [])
+unfolding decimal without_leading_zeros
 small n h =
     let a : n / 1000000000 ≡ 0 = omega arith in
     let b : n / 100000000 ≡ 0 = omega arith in
@@ -68,11 +68,11 @@ three : (n : ℕ) → n < 1000 → length (decimal n) ≤ 3
 three n h = rw (small n h) (shorter 2 (digit (n / 100) ∷ digit (n / 10) ∷ digit n ∷ []))
 
 two : (n : ℕ) → n < 100 → length (decimal n) ≤ 2
-unfolding without_zeros
+unfolding without_leading_zeros
 two n h = let i : n / 100 ≡ 0 = omega arith in rw (small n (omega arith), i) (shorter 1 (digit (n / 10) ∷ digit n ∷ []))
 
 one : (n : ℕ) → n < 10 → length (decimal n) ≤ 1
-unfolding without_zeros
+unfolding without_leading_zeros
 one n h =
     let i : n / 100 ≡ 0 = omega arith in
     let j : n / 10 ≡ 0 = omega arith in
@@ -105,15 +105,15 @@ points_length : (p : Problem) (n : ℕ) → n ≤ 1000 → length (point_lines p
 unfolding point_lines
 points_length p zero h = omega arith
 points_length p (suc n) h =
-    let a = length-append (point_lines p n) (point_line n (letter (block_at p n) p.damping)) in
-    let b = point_length n (letter (block_at p n) p.damping) in
+    let a = length-append (point_lines p n) (point_line n (letter_of (block_at p n) p.damping)) in
+    let b = point_length n (letter_of (block_at p n) p.damping) in
     let c = points_length p n (omega arith) in
     by (ltb n 10) (ltb n 100) refl refl a b c
   where
     by : (x y : Bool) → ltb n 10 ≡ x → ltb n 100 ≡ y
-        → length (point_lines p n ++ point_line n (letter (block_at p n) p.damping)) ≡ length (point_lines p n) + length (point_line n (letter (block_at p n) p.damping))
-        → length (point_line n (letter (block_at p n) p.damping)) ≡ 5 + length (decimal n) → length (point_lines p n) ≤ 6 * n + (n - 10) + (n - 100)
-        → length (point_lines p n ++ point_line n (letter (block_at p n) p.damping)) ≤ 6 * suc n + (suc n - 10) + (suc n - 100)
+        → length (point_lines p n ++ point_line n (letter_of (block_at p n) p.damping)) ≡ length (point_lines p n) + length (point_line n (letter_of (block_at p n) p.damping))
+        → length (point_line n (letter_of (block_at p n) p.damping)) ≡ 5 + length (decimal n) → length (point_lines p n) ≤ 6 * n + (n - 10) + (n - 100)
+        → length (point_lines p n ++ point_line n (letter_of (block_at p n) p.damping)) ≤ 6 * suc n + (suc n - 10) + (suc n - 100)
     by true y e f a b c = let k = one n (ltb-true n 10 e) in omega arith
     by false true e f a b c = let i = ltb-false n 10 e in let k = two n (ltb-true n 100 f) in omega arith
     by false false e f a b c = let i = ltb-false n 100 f in let k = three n (omega arith) in omega arith
@@ -155,7 +155,7 @@ refused_length refusal =
 
 -- ---- the list
 
-lines_length : (p : Problem) → Checks.check p ≡ Ok tt → count p ≤ 512 → length (lines_of p (reduced_system p)) ≤ max_list
+lines_length : (p : Problem) → Checks.check_problem p ≡ Ok tt → count p ≤ 512 → length (lines_of p (reduced_system p)) ≤ max_list
 unfolding lines_of
 lines_length p e n =
     let m = weak_at_most p in
@@ -167,28 +167,28 @@ lines_length p e n =
     omega arith
 
 pub list_fits : (r : List ℕ) → length (list r) ≤ max_list
-unfolding list check
-list_fits r = by (result_and (Form.check r) (Checks.check (run r))) refl
+unfolding list check_record
+list_fits r = by (result_and (Form.check_form r) (Checks.check_problem (run r))) refl
   where
-    by : (x : Checked) → result_and (Form.check r) (Checks.check (run r)) ≡ x → length (listed (run r) x) ≤ max_list
+    by : (x : CheckResult) → result_and (Form.check_form r) (Checks.check_problem (run r)) ≡ x → length (lines_or_refusal (run r) x) ≤ max_list
     by (Ok tt) e =
-        let checks = after_ok (Form.check r) (Checks.check (run r)) e in
+        let checks = after_ok (Form.check_form r) (Checks.check_problem (run r)) e in
         let few = few_points r (formed r checks.0) in
         let n = count_points r (point_fields r) in
         lines_length (run r) checks.1 (omega arith)
     by (Err f) e = let h = refused_length f in omega arith
 
 -- the sum line's cost and squared residual are never NaN
-pub sums_are_numbers : (r : List ℕ) → check r ≡ Ok tt → NeverNan r
-unfolding check
+pub sums_are_numbers : (r : List ℕ) → check_record r ≡ Ok tt → NeverNan r
+unfolding check_record
 sums_are_numbers r e =
-    let n = costs_are_numbers (run r) (after_ok (Form.check r) (Checks.check (run r)) e).1 in
+    let n = costs_are_numbers (run r) (after_ok (Form.check_form r) (Checks.check_problem (run r)) e).1 in
     record { cost = n.0; squared = n.1 }
 
 -- ---- written
 
-module _ (r room : List ℕ) (l : ℕ) (after : List ℕ) (h : length room ≡ max_list) (p : Put (list r) 0 room l after) where
-  put_list : (l ≡ length (list r)) × (after ≡ pasted room 0 (list r))
+module _ (r room : List ℕ) (l : ℕ) (after : List ℕ) (h : length room ≡ max_list) (p : PutsText (list r) 0 room l after) where
+  put_list : (l ≡ length (list r)) × (after ≡ with_text room 0 (list r))
   put_list = let k = list_fits r in let q = put_fits (list r) 0 room l after p (omega arith) in (q.0 ∙ zero-add (length (list r)), q.1)
 
   pub made : take l after ≡ list r
@@ -201,21 +201,21 @@ module _ (r room : List ℕ) (l : ℕ) (after : List ℕ) (h : length room ≡ m
   made_length = let k = list_fits r in let a = put_list.0 in let b = put_length (list r) 0 room l after p in omega arith
 
   module _ (out : List ℕ) where
-    pub not_written : length out < l → Wrote r out (Err (record { needed = l })) out
+    pub not_written : length out < l → WritesList r out (Err (record { needed = l })) out
     not_written t =
         let a = put_list.0 in
-        let f : fits r out ≡ false = lt-leb (length (list r)) (length out) (omega arith) in record {
+        let f : fits_in r out ≡ false = lt-leb (length (list r)) (length out) (omega arith) in record {
           answer = rw (a, f) refl;
           bound = list_fits r;
           same_out = rw f refl;
         }
 
-    pub written : l ≤ length out → (next : ℕ) (end : List ℕ) → Put (take l after) 0 out next end → Wrote r out (Ok l) end
+    pub written : l ≤ length out → (next : ℕ) (end : List ℕ) → PutsText (take l after) 0 out next end → WritesList r out (Ok l) end
     written t next end q =
         let a = put_list.0 in
         let b = ap length made in
-        let f : fits r out ≡ true = le-leb (length (list r)) (length out) (omega arith) in record {
+        let f : fits_in r out ≡ true = le-leb (length (list r)) (length out) (omega arith) in record {
           answer = rw (a, f) refl;
           bound = list_fits r;
-          same_out = rw f ((put_fits (take l after) 0 out next end q (omega arith)).1 ∙ ap (λ (x : List ℕ). pasted out 0 x) made);
+          same_out = rw f ((put_fits (take l after) 0 out next end q (omega arith)).1 ∙ ap (λ (x : List ℕ). with_text out 0 x) made);
         }

@@ -15,10 +15,10 @@ use Rattle.refusal.specs.declared.Refusal.TheVariants.{RecordTooLong}
 use Rattle.run_record.specs.Form as Form
 use Rattle.run_record.specs.Form.{max_record}
 use Rattle.run_list.specs.Lines.{refused_line}
-use Rattle.run_list.specs.Lists.{check, list}
+use Rattle.run_list.specs.Lists.{check_record, list}
 
 too_long : (r : List ℕ) → max_record < length r → list r ≡ refused_line RecordTooLong
-unfolding list check Form.check
+unfolding list check_record Form.check_form
 too_long r h = rw (lt-leb (length r) max_record h) refl
 
 pub prefix_decides : (r : List ℕ) → list (take (max_record + 1) r) ≡ list r

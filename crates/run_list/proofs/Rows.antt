@@ -6,14 +6,14 @@ use native.Mathlib.Omega.{arith}
 use borrow.Author.Tests.{eq-eqb, le-leb}
 use Rattle.numerics.proofs.Fill.{length_tabulate}
 use Rattle.std.specs.Prelude.{Ok}
-use Rattle.problem.specs.Checks.{max_points, check_values, check}
+use Rattle.problem.specs.Checks.{max_points, check_values, check_problem}
 use Rattle.run_record.specs.Fields.{point_fields}
 use Rattle.run_record.specs.Form as Form
 use Rattle.run_record.proofs.Forms.{formed, few_points}
 use Rattle.run_record.specs.Run.{column, first_points, run}
 
-pub from_row_3 : (r : List ℕ) → Form.check r ≡ Ok tt → check (run r) ≡ check_values (run r)
-unfolding check first_points
+pub from_row_3 : (r : List ℕ) → Form.check_form r ≡ Ok tt → check_problem (run r) ≡ check_values (run r)
+unfolding check_problem first_points
 from_row_3 r e =
     let n = point_fields r in
     let few = few_points r (formed r e) in

@@ -2,7 +2,7 @@
 use Rattle.std.specs.Prelude.{ℕ, List, [], ◌∷◌, ◌++◌, Float}
 use Rattle.std.specs.Float.{binary64}
 use Rattle.std.specs.Float.Ieee.{to_bits}
-use Rattle.refusal.specs.Refused.{row}
+use Rattle.refusal.specs.RefusalRow.{row}
 use Rattle.refusal.specs.declared.Refusal.{Refusal}
 use Rattle.text.specs.Hex.{digits}
 use Rattle.text.specs.Text.{space, line_feed, decimal}

@@ -2,15 +2,15 @@
 use Rattle.std.specs.Prelude.{ℕ, zero, suc, ◌≤◌, ◌≡◌, Bool, false, cond, List, [], ◌++◌, leb, length, Result, Ok, Err}
 use Rattle.std.specs.Result.{result_and}
 use Rattle.std.specs.Float.Ieee.{is_nan}
-use Rattle.refusal.specs.First.{Checked}
+use Rattle.refusal.specs.FirstRefusal.{CheckResult}
 use Rattle.problem.specs.Problem.{Problem, count}
 use Rattle.schur.specs.declared.reduced_system.ReducedSystem.{ReducedSystem}
 use Rattle.problem.specs.Checks as Checks
 use Rattle.optimizer.specs.Assembly.{block_at, reduced_system}
 use Rattle.run_record.specs.Form as Form
 use Rattle.run_record.specs.Run.{run}
-use Rattle.text.specs.Text.{pasted}
-use Rattle.problem.specs.Letters.{letter}
+use Rattle.text.specs.Text.{with_text}
+use Rattle.problem.specs.Letters.{letter_of}
 use Rattle.run_list.specs.Lines.{run_line, point_line, refused_line}
 use Rattle.run_list.specs.SumLine.{sum_line}
 use Rattle.run_list.specs.declared.record.list.TooSmall.{TooSmall}
@@ -18,23 +18,23 @@ use Rattle.run_list.specs.declared.record.list.TooSmall.{TooSmall}
 -- a line for each of the first n points
 unfoldable pub point_lines : Problem → ℕ → List ℕ
 point_lines p zero = []
-point_lines p (suc n) = point_lines p n ++ point_line n (letter (block_at p n) p.damping)
+point_lines p (suc n) = point_lines p n ++ point_line n (letter_of (block_at p n) p.damping)
 
 -- the lines of a run, with the sum line of a system
 unfoldable pub lines_of : Problem → ReducedSystem → List ℕ
 lines_of p s = run_line (count p) p.damping ++ point_lines p (count p) ++ sum_line s
 
 -- the lines of a run, or of its refusal
-abbrev pub listed : Problem → Checked → List ℕ
-listed p (Ok x) = lines_of p (reduced_system p)
-listed p (Err e) = refused_line e
+abbrev pub lines_or_refusal : Problem → CheckResult → List ℕ
+lines_or_refusal p (Ok x) = lines_of p (reduced_system p)
+lines_or_refusal p (Err e) = refused_line e
 
 -- Rows 14 and 15, then the checks of the run. Of these rows 1 and 2 cannot come up (`FromRow3`).
-unfoldable pub check : List ℕ → Checked
-check r = result_and (Form.check r) (Checks.check (run r))
+unfoldable pub check_record : List ℕ → CheckResult
+check_record r = result_and (Form.check_form r) (Checks.check_problem (run r))
 
 unfoldable pub list : List ℕ → List ℕ
-list r = listed (run r) (check r)
+list r = lines_or_refusal (run r) (check_record r)
 
 -- no list has more bytes, so a buffer of that length always suffices
 abbrev pub max_list : ℕ
@@ -46,15 +46,15 @@ pub record NeverNan (r : List ℕ) : Type 0 where
   pub squared : is_nan (reduced_system (run r)).squared_residual ≡ false
 
 -- whether a list fits into a buffer, what is answered then, and what the buffer is
-abbrev pub fits : List ℕ → List ℕ → Bool
-fits r out = leb (length (list r)) (length out)
+abbrev pub fits_in : List ℕ → List ℕ → Bool
+fits_in r out = leb (length (list r)) (length out)
 
-abbrev pub answered : List ℕ → List ℕ → Result ℕ TooSmall
-answered r out = cond (fits r out) (Ok (length (list r))) (Err (record { needed = length (list r) }))
+abbrev pub list_result : List ℕ → List ℕ → Result ℕ TooSmall
+list_result r out = cond (fits_in r out) (Ok (length (list r))) (Err (record { needed = length (list r) }))
 
 -- what `write_list` leaves: the list's length, or that it is too long; and the list in out,
 -- which is else as it was
-pub record Wrote (r out : List ℕ) (w : Result ℕ TooSmall) (after : List ℕ) : Type 0 where
-  pub answer : w ≡ answered r out
+pub record WritesList (r out : List ℕ) (w : Result ℕ TooSmall) (after : List ℕ) : Type 0 where
+  pub answer : w ≡ list_result r out
   pub bound : length (list r) ≤ max_list
-  pub same_out : after ≡ cond (fits r out) (pasted out 0 (list r)) out
+  pub same_out : after ≡ cond (fits_in r out) (with_text out 0 (list r)) out

@@ -1,6 +1,6 @@
 -- The line of a list's sums and of its verdict.
 use Rattle.std.specs.Prelude.{ℕ, Bool, ◌&&◌, cond, List, [], ◌∷◌, ◌++◌, eqb}
-use Rattle.schur.specs.Model.{is_valid}
+use Rattle.schur.specs.Reduced.{is_valid}
 use Rattle.schur.specs.declared.reduced_system.ReducedSystem.{ReducedSystem}
 use Rattle.text.specs.Text.{space, line_feed, decimal}
 use Rattle.run_list.specs.Lines.{bits_then}

@@ -11,7 +11,7 @@ use text::{Writer, hex_digits};
 
 // `run`, the number of points, the damping's bits
 pub(crate) fn put_run(writer: &mut Writer, n: u32, damping: f64)
-    ensures { Text.Wrote (Lines.run_line n damping) writer.old writer.new }
+    ensures { Text.AppendsText (Lines.run_line n damping) writer.old writer.new }
 {
     writer.put(b"run ");
     writer.put_decimal(n);
@@ -20,7 +20,7 @@ pub(crate) fn put_run(writer: &mut Writer, n: u32, damping: f64)
 
 // A space, a number's bits, and what follows them
 pub(crate) fn put_bits(writer: &mut Writer, x: f64, after: &[u8])
-    ensures { Text.Wrote (Lines.bits_then x after.now) writer.old writer.new }
+    ensures { Text.AppendsText (Lines.bits_then x after.now) writer.old writer.new }
 {
     let digits = hex_digits::digits(numerics::to_bits(x));
     writer.put_three(b" ", &digits, after);
@@ -29,7 +29,7 @@ pub(crate) fn put_bits(writer: &mut Writer, x: f64, after: &[u8])
 // `p`, the index, the letter as it stands in the text
 #[tactic(auto, using(text::proofs::Wrote::wrote_both), unfolding(crate::specs::Lines::point_line))]
 pub(crate) fn put_point(writer: &mut Writer, i: u32, letter: u8)
-    ensures { Text.Wrote (Lines.point_line i letter) writer.old writer.new }
+    ensures { Text.AppendsText (Lines.point_line i letter) writer.old writer.new }
 {
     writer.put(b"p ");
     writer.put_decimal_then(i, &[b' ', letter, b'\n']);
@@ -37,7 +37,7 @@ pub(crate) fn put_point(writer: &mut Writer, i: u32, letter: u8)
 
 // `refused`, number, view, index
 pub(crate) fn put_refused(writer: &mut Writer, refusal: Refusal)
-    ensures { Text.Wrote (Lines.refused_line refusal) writer.old writer.new }
+    ensures { Text.AppendsText (Lines.refused_line refusal) writer.old writer.new }
 {
     let row = refusal.row();
     writer.put(b"refused ");

@@ -4,7 +4,7 @@ use mathlib.Core.List.{List, []}
 use Prim.Native.Nat.{ℕ}
 use Rattle.std.specs.Prelude.{Ok, Err}
 use Rattle.std.specs.Result.{result_and}
-use Rattle.refusal.specs.First.{Checked}
+use Rattle.refusal.specs.FirstRefusal.{CheckResult}
 use Rattle.problem.specs.Problem.{Problem, problem}
 use Rattle.run_record.specs.declared.fields.Field.{Field}
 use Rattle.run_record.specs.declared.fields.Field.TheVariants.{Camera1, Camera2, Pose, Basis, Damping}
@@ -17,7 +17,7 @@ use Rattle.run_record.specs.Run.{number_at, camera, pose, rig, first_points}
 pub handed_out : (r : List ℕ) (field : Field) (start : ℕ) (p : List ℕ) → field_at r field start ≡ Ok p → (check_field r field start ≡ Ok tt) × (payload r field start ≡ p)
 handed_out r field start p = by (check_field r field start)
   where
-    by : (x : Checked) → result_and x (Ok (payload r field start)) ≡ Ok p → (x ≡ Ok tt) × (payload r field start ≡ p)
+    by : (x : CheckResult) → result_and x (Ok (payload r field start)) ≡ Ok p → (x ≡ Ok tt) × (payload r field start ≡ p)
     by (Ok tt) e = (refl, cc)
     by (Err f) e = absurd (cc)
 

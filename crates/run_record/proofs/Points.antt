@@ -10,7 +10,7 @@ use Rattle.std.specs.Prelude.{Ok, Err}
 use Rattle.numerics.specs.Vectors.{tabulate}
 use Rattle.numerics.proofs.Fill.{length_tabulate}
 use Rattle.refusal.specs.declared.Refusal.{Refusal}
-use Rattle.refusal.specs.First.{Checked}
+use Rattle.refusal.specs.FirstRefusal.{CheckResult}
 use Rattle.refusal.proofs.Scans as Scans
 use Rattle.problem.specs.Problem.{Problem, count}
 use Rattle.run_record.specs.declared.fields.Field.TheVariants.{Point}
@@ -64,7 +64,7 @@ pub count_points : (r : List ℕ) (n : ℕ) → count (first_points r n) ≡ n
 unfolding first_points
 count_points r n = length_tabulate n (column r 56 1)
 
-abbrev pub check_point : List ℕ → ℕ → Checked
+abbrev pub check_point : List ℕ → ℕ → CheckResult
 check_point r i = check_field r Point (point_at i)
 
 -- a reading that has come to a place, with its points so far

@@ -34,8 +34,8 @@ camera2_at = 43
 abbrev pub pose_at : ℕ
 pose_at = 86
 
-abbrev pub basis_at : ℕ
-basis_at = 185
+abbrev pub translation_basis_at : ℕ
+translation_basis_at = 185
 
 abbrev pub damping_at : ℕ
 damping_at = 244

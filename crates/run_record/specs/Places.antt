@@ -5,9 +5,9 @@ use Rattle.run_record.specs.declared.fields.Field.{Field}
 use Rattle.run_record.specs.declared.reader.Reader.{Reader}
 
 -- at another place in the same bytes
-abbrev pub MovedTo : Reader → Reader → ℕ → Type 0
-MovedTo old new at = (new.bytes ≡ old.bytes) × (new.at ≡ at)
+abbrev pub MovesTo : Reader → Reader → ℕ → Type 0
+MovesTo old new at = (new.bytes ≡ old.bytes) × (new.at ≡ at)
 
 -- behind the field at its place: three bytes and the payload
-abbrev pub MovedPast : Reader → Reader → Field → Type 0
-MovedPast old new field = MovedTo old new (old.at + 3 + size field)
+abbrev pub MovesPast : Reader → Reader → Field → Type 0
+MovesPast old new field = MovesTo old new (old.at + 3 + size field)

@@ -10,19 +10,19 @@ use Rattle.linearization.specs.declared.views.Correspondence.{Correspondence}
 use Rattle.problem.specs.declared.correspondences.Rig.{Rig}
 use Rattle.problem.specs.Problem.{Problem, problem}
 use Rattle.run_record.specs.declared.fields.Field.TheVariants.{Camera1, Camera2, Pose, Basis, Damping, Point}
-use Rattle.run_record.specs.Fields.{byte, payload, camera1_at, camera2_at, pose_at, basis_at, damping_at, point_at, point_fields}
+use Rattle.run_record.specs.Fields.{byte, payload, camera1_at, camera2_at, pose_at, translation_basis_at, damping_at, point_at, point_fields}
 
 -- ---- numbers of a payload
 
 -- four bytes, then eight, low byte first
-abbrev pub half : List ℕ → ℕ → ℕ
-half p at = byte p at + 256 * byte p (at + 1) + 65536 * byte p (at + 2) + 16777216 * byte p (at + 3)
+abbrev pub u32_at : List ℕ → ℕ → ℕ
+u32_at p at = byte p at + 256 * byte p (at + 1) + 65536 * byte p (at + 2) + 16777216 * byte p (at + 3)
 
-unfoldable pub word : List ℕ → ℕ → ℕ
-word p at = half p at + 4294967296 * half p (at + 4)
+unfoldable pub u64_at : List ℕ → ℕ → ℕ
+u64_at p at = u32_at p at + 4294967296 * u32_at p (at + 4)
 
 unfoldable pub number_at : List ℕ → ℕ → Float
-number_at p at = of_bits binary64 (word p at)
+number_at p at = of_bits binary64 (u64_at p at)
 
 -- n numbers, one after the other
 abbrev pub numbers_at : List ℕ → ℕ → ℕ → List Float
@@ -45,7 +45,7 @@ unfoldable pub rig : List ℕ → Rig
 rig r = record {
   camera1 = camera (payload r Camera1 camera1_at);
   camera2 = camera (payload r Camera2 camera2_at);
-  pose = pose (payload r Pose pose_at) (payload r Basis basis_at);
+  pose = pose (payload r Pose pose_at) (payload r Basis translation_basis_at);
 }
 
 abbrev pub damping : List ℕ → Float

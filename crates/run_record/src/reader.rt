@@ -66,7 +66,7 @@ impl<'a> Reader<'a> {
         ensures payload { let reader = self.old in
             Reads.bytes_of result ≡ Reads.field_at reader.bytes.now field reader.at }
         ensures size { IfOk result (λ payload. length payload.now ≡ Fields.size field) }
-        ensures behind { OnOk result (Places.MovedPast self.old self.new field) }
+        ensures behind { OnOk result (Places.MovesPast self.old self.new field) }
         ensures stays { OnErr result (self.new ≡ self.old) }
     {
         let payload = field_at(self.bytes, self.at, field)?;

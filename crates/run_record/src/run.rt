@@ -106,9 +106,9 @@ fn put<const N: usize>(list: &mut [f64], at: usize, numbers: [f64; N])
 
 /// The run that a record holds. Refuses a record that is longer than `MAX_RECORD` (row 14), and one
 /// with a broken field, of which it tells the byte where the first one begins (row 15).
-#[tactic(auto, unfolding(crate::specs::Form::check))]
+#[tactic(auto, unfolding(crate::specs::Form::check_form))]
 pub fn read(record: &[u8]) -> Result<Run, Refusal>
-    ensures { result ≡ result_and (Form.check «record».now) (Ok (Runs.run «record».now)) }
+    ensures { result ≡ result_and (Form.check_form «record».now) (Ok (Runs.run «record».now)) }
 {
     if record.len() > MAX_RECORD {
         return Err(Refusal::RecordTooLong);
@@ -127,7 +127,7 @@ fn read_header(reader: &mut Reader) -> Result<Run, Refusal>
     requires { reader.old.at ≡ 0 }
     ensures header { let r = reader.old.bytes.now in
         result ≡ result_and (Form.check_header r) (Ok (Runs.first_points r 0)) }
-    ensures behind { OnOk result (Places.MovedTo reader.old reader.new Fields.points_at) }
+    ensures behind { OnOk result (Places.MovesTo reader.old reader.new Fields.points_at) }
 {
     let camera1 = payload::camera(reader.next_field(Field::Camera1)?);
     let camera2 = payload::camera(reader.next_field(Field::Camera2)?);

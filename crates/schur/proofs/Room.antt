@@ -3,18 +3,18 @@ use Rattle.std.proofs.Common.{◌≡◌, ℕ, suc, ◌≤◌, Bool, true, false,
 use lib.Ieee.{Float}
 use Rattle.linearization.specs.declared.linearize.LocalLinearization.{LocalLinearization}
 use Rattle.schur.specs.declared.reduced_system.ReducedSystem.{ReducedSystem}
-use Rattle.schur.specs.BlockElimination.{raised, eliminate}
-use Rattle.schur.specs.System.{taken_with, taken}
+use Rattle.schur.specs.BlockElimination.{count_if, elimination_of}
+use Rattle.schur.specs.ReducedAdd.{taken_with, with_block}
 
-raised_at_most : (b : Bool) (weak blocks : ℕ) → weak ≤ blocks → raised b weak ≤ suc blocks
+raised_at_most : (b : Bool) (weak blocks : ℕ) → weak ≤ blocks → count_if b weak ≤ suc blocks
 raised_at_most true weak blocks h = omega arith
 raised_at_most false weak blocks h = omega arith
 
 module _ (s : ReducedSystem) (b : LocalLinearization) (d : Float) where
-  pub blocks_taken : (taken s b d).block_count ≡ suc s.block_count
-  unfolding taken taken_with
+  pub blocks_taken : (with_block s b d).block_count ≡ suc s.block_count
+  unfolding with_block taken_with
   blocks_taken = refl
 
-  pub weak_taken_at_most : s.weak_point_count ≤ s.block_count → (taken s b d).weak_point_count ≤ (taken s b d).block_count
-  unfolding taken taken_with
-  weak_taken_at_most h = raised_at_most (eliminate s b d).weak s.weak_point_count s.block_count h
+  pub weak_taken_at_most : s.weak_point_count ≤ s.block_count → (with_block s b d).weak_point_count ≤ (with_block s b d).block_count
+  unfolding with_block taken_with
+  weak_taken_at_most h = raised_at_most (elimination_of s b d).weak s.weak_point_count s.block_count h

@@ -10,7 +10,7 @@ use Rattle.numerics.specs.Vectors.{◌!◌, tabulate}
 use Rattle.numerics.proofs.Fill.{by_rows}
 use Rattle.linearization.specs.declared.linearize.LocalLinearization.{LocalLinearization}
 use Rattle.point_block.specs.Factor.{solve}
-use Rattle.schur.specs.Elimination.{dot3, cross_row, schur_term, reduced_hessian}
+use Rattle.schur.specs.SchurComplement.{dot3, cross_row, schur_term, reduced_hessian}
 
 module _ (h inverse : List Float) (b : LocalLinearization) where
   abbrev cross : List Float

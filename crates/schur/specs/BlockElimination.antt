@@ -5,16 +5,16 @@ use Rattle.numerics.specs.Extrema.{min}
 use Rattle.numerics.specs.Binary64.{zero}
 use Rattle.point_block.specs.Damping.{is_zero}
 use Rattle.point_block.specs.Condition.{reciprocal_condition_number, is_weak}
-use Rattle.point_block.specs.Lone.{factor}
+use Rattle.point_block.specs.FactorWithRcond.{factor}
 use Rattle.linearization.specs.declared.linearize.LocalLinearization.{LocalLinearization}
-use Rattle.schur.specs.Elimination.{reduced_hessian, reduced_gradient, point_reduction}
+use Rattle.schur.specs.SchurComplement.{reduced_hessian, reduced_gradient, point_reduction}
 use Rattle.schur.specs.declared.reduced_system.ReducedSystem.{ReducedSystem}
 
-abbrev pub raised : Bool → ℕ → ℕ
-raised b n = cond b (suc n) n
+abbrev pub count_if : Bool → ℕ → ℕ
+count_if b n = cond b (suc n) n
 
 -- the equations after a block, and what the block shows of itself
-pub record Change : Type 0 where
+pub record Elimination : Type 0 where
   pub hessian : List Float
   pub gradient : List Float
   pub point_model_reduction : Float
@@ -24,8 +24,8 @@ pub record Change : Type 0 where
 
 -- a block that does not factor leaves the equations alone; at damping zero only it is weak, with
 -- an rcond of 0
-unfoldable pub not_eliminated : ReducedSystem → Bool → Change
-not_eliminated s at_zero = record {
+unfoldable pub unfactored : ReducedSystem → Bool → Elimination
+unfactored s at_zero = record {
   hessian = s.hessian;
   gradient = s.gradient;
   point_model_reduction = s.point_model_reduction;
@@ -35,8 +35,8 @@ not_eliminated s at_zero = record {
 }
 
 -- a block that factors, by its packed inverse; its rcond is asked for at damping zero only
-unfoldable pub eliminated : ReducedSystem → LocalLinearization → Float → List Float → Change
-eliminated s b damping inverse = record {
+unfoldable pub after_elimination : ReducedSystem → LocalLinearization → Float → List Float → Elimination
+after_elimination s b damping inverse = record {
   hessian = reduced_hessian s.hessian inverse b;
   gradient = reduced_gradient s.gradient inverse b;
   point_model_reduction = point_reduction s.point_model_reduction inverse b;
@@ -45,12 +45,12 @@ eliminated s b damping inverse = record {
   weak = is_zero damping && is_weak (reciprocal_condition_number inverse b.point_hessian);
 }
 
-unfoldable pub eliminate : ReducedSystem → LocalLinearization → Float → Change
-eliminate s b damping = elim (factor b.point_hessian damping) [ Ok f ↦ eliminated s b damping f.inverse | Err r ↦ not_eliminated s (is_zero damping) ]
+unfoldable pub elimination_of : ReducedSystem → LocalLinearization → Float → Elimination
+elimination_of s b damping = elim (factor b.point_hessian damping) [ Ok f ↦ after_elimination s b damping f.inverse | Err r ↦ unfactored s (is_zero damping) ]
 
 -- the system with its equations changed, and the block counted where it is weak
-abbrev pub changed : ReducedSystem → Change → ReducedSystem
-changed s e = record {
+abbrev pub with_equations : ReducedSystem → Elimination → ReducedSystem
+with_equations s e = record {
   hessian = e.hessian;
   gradient = e.gradient;
   cost = s.cost;
@@ -59,7 +59,7 @@ changed s e = record {
   pose_diagonal = s.pose_diagonal;
   point_model_reduction = e.point_model_reduction;
   scaled_point_gradient_inf_norm = s.scaled_point_gradient_inf_norm;
-  weak_point_count = raised e.weak s.weak_point_count;
+  weak_point_count = count_if e.weak s.weak_point_count;
   minimum_point_rcond = e.minimum_point_rcond;
   valid = s.valid;
   block_count = s.block_count;

@@ -2,8 +2,8 @@
 pub mod PoseModel
 pub mod PoseDamping
 pub mod GradientNorm
-pub mod Model
-pub mod Elimination
+pub mod Reduced
+pub mod SchurComplement
 pub mod BlockElimination
 pub mod PointStep
-pub mod System
+pub mod ReducedAdd

@@ -5,9 +5,9 @@ use Rattle.numerics.specs.Binary64.{◌⊕◌, ◌⊗◌, zero}
 use Rattle.numerics.specs.Vectors.{◌!◌, sum, tabulate, zeros}
 use Rattle.refusal.specs.declared.Refusal.{Refusal}
 use Rattle.refusal.specs.declared.Refusal.TheVariants.{Damping}
-use Rattle.point_block.specs.Damping.{good_damping, floored}
+use Rattle.point_block.specs.Damping.{is_valid_damping, damping_diagonal_of}
 use Rattle.point_block.specs.Factor.{solve}
-use Rattle.point_block.specs.Lone.{factor, inverse_at}
+use Rattle.point_block.specs.FactorWithRcond.{factor, inverse_at}
 use Rattle.linearization.specs.declared.linearize.LocalLinearization.{LocalLinearization}
 use Rattle.linearization.specs.declared.terms.PointTerms.{PointTerms}
 use Rattle.linearization.specs.Linearize.{point_terms}
@@ -28,23 +28,23 @@ step_of inverse t pose_step = tabulate 3 (λ i. neg (solve inverse (right_hand_s
 unfoldable pub damping_norm : List Float → List Float → Float
 damping_norm diagonal step = sum (tabulate 3 (λ i. diagonal ! i ⊗ step ! i ⊗ step ! i))
 
-unfoldable pub stepped : List Float → PointTerms → List Float → PointStep
-stepped inverse t pose_step =
+unfoldable pub step_by_inverse : List Float → PointTerms → List Float → PointStep
+step_by_inverse inverse t pose_step =
     let step = step_of inverse t pose_step in
-    record { step = step; damping_norm = damping_norm (floored t.point_hessian) step }
+    record { step = step; damping_norm = damping_norm (damping_diagonal_of t.point_hessian) step }
 
 -- the step of a point by the formulas alone: that of its factor, where it has one
 abbrev pub step_at : PointTerms → Float → List Float → PointStep
-step_at t damping pose_step = stepped (inverse_at t.point_hessian damping) t pose_step
+step_at t damping pose_step = step_by_inverse (inverse_at t.point_hessian damping) t pose_step
 
 -- +0 everywhere: what stands beside a refusal
-abbrev pub no_step : PointStep
-no_step = record { step = zeros 3; damping_norm = zero }
+abbrev pub zero_point_step : PointStep
+zero_point_step = record { step = zeros 3; damping_norm = zero }
 
 -- tests row 10
 unfoldable pub damped_step : PointTerms → Float → List Float → Result PointStep Refusal
-damped_step t damping pose_step = elim (factor t.point_hessian damping) [ Ok f ↦ Ok (stepped f.inverse t pose_step) | Err r ↦ Err r ]
+damped_step t damping pose_step = elim (factor t.point_hessian damping) [ Ok f ↦ Ok (step_by_inverse f.inverse t pose_step) | Err r ↦ Err r ]
 
 -- tests row 3, then row 10
 unfoldable pub point_step : LocalLinearization → Float → List Float → Result PointStep Refusal
-point_step b damping pose_step = cond (good_damping damping) (damped_step (point_terms b) damping pose_step) (Err Damping)
+point_step b damping pose_step = cond (is_valid_damping damping) (damped_step (point_terms b) damping pose_step) (Err Damping)

@@ -1,12 +1,12 @@
 -- The damping of the pose's equations, in `finish_damping` and `predicted_reduction` of schur.rs.
 use Rattle.std.specs.Prelude.{ℕ, ◌/◌, ◌%◌, cond, List, [], ◌∷◌, eqb, Float}
-use Rattle.numerics.specs.Binary64.{◌⊕◌, ◌⊗◌, epsilon64, min_positive}
+use Rattle.numerics.specs.Binary64.{◌⊕◌, ◌⊗◌, relative_tolerance, min_positive}
 use Rattle.numerics.specs.Vectors.{◌!◌, sum, tabulate}
-use Rattle.numerics.specs.Extrema.{max, largest}
+use Rattle.numerics.specs.Extrema.{max, fold_max}
 
 -- a pose's curvature is taken as at least this
 unfoldable pub pose_floor : List Float → Float
-pose_floor d = epsilon64 ⊗ max (largest (d ! 0 ∷ d ! 1 ∷ d ! 2 ∷ d ! 3 ∷ d ! 4 ∷ [])) min_positive
+pose_floor d = relative_tolerance ⊗ max (fold_max (d ! 0 ∷ d ! 1 ∷ d ! 2 ∷ d ! 3 ∷ d ! 4 ∷ [])) min_positive
 
 unfoldable pub damping_diagonal : List Float → List Float
 damping_diagonal d = tabulate 5 (λ i. max (d ! i) (pose_floor d))

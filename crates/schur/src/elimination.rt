@@ -7,7 +7,7 @@
 mod block_elimination;
 
 ghost use Rattle.std.specs.Prelude.{◌≡◌, ◌<◌};
-ghost use Rattle.schur.specs.Elimination as Elimination;
+ghost use Rattle.schur.specs.SchurComplement as SchurComplement;
 
 pub(crate) use block_elimination::eliminate;
 use linearization::LocalLinearization;
@@ -24,7 +24,7 @@ pub(crate) fn reduced_hessian(
     factor: PointBlockFactor,
     local: LocalLinearization,
 ) -> [f64; 25]
-    ensures { result ≡ Elimination.reduced_hessian h factor.inverse local }
+    ensures { result ≡ SchurComplement.reduced_hessian h factor.inverse local }
 {
     let p = local.pose_hessian;
     let c = local.cross_hessian;
@@ -46,14 +46,14 @@ pub(crate) fn reduced_hessian(
     out
 }
 
-#[tactic(auto, unfolding(crate::specs::Elimination::reduced_gradient))]
+#[tactic(auto, unfolding(crate::specs::SchurComplement::reduced_gradient))]
 #[inline(always)]
 pub(crate) fn reduced_gradient(
     g: [f64; 5],
     factor: PointBlockFactor,
     local: LocalLinearization,
 ) -> [f64; 5]
-    ensures { result ≡ Elimination.reduced_gradient g factor.inverse local }
+    ensures { result ≡ SchurComplement.reduced_gradient g factor.inverse local }
 {
     let p = local.pose_gradient;
     let c = local.cross_hessian;
@@ -61,43 +61,43 @@ pub(crate) fn reduced_gradient(
     array::from_fn(|i| g[i] + (p[i] - dot3(cross_row(c, i), x)))
 }
 
-#[tactic(auto, unfolding(crate::specs::Elimination::point_reduction))]
+#[tactic(auto, unfolding(crate::specs::SchurComplement::point_reduction))]
 #[inline(always)]
 pub(crate) fn point_reduction(
     reduction: f64,
     factor: PointBlockFactor,
     local: LocalLinearization,
 ) -> f64
-    ensures { result ≡ Elimination.point_reduction reduction factor.inverse local }
+    ensures { result ≡ SchurComplement.point_reduction reduction factor.inverse local }
 {
     let gradient = local.point_gradient;
     reduction + 0.5 * dot3(gradient, inverse_gradient(factor, local))
 }
 
-#[tactic(auto, unfolding(crate::specs::Elimination::inverse_gradient))]
+#[tactic(auto, unfolding(crate::specs::SchurComplement::inverse_gradient))]
 #[inline(always)]
 fn inverse_gradient(factor: PointBlockFactor, local: LocalLinearization) -> [f64; 3]
-    ensures { result ≡ Elimination.inverse_gradient factor.inverse local }
+    ensures { result ≡ SchurComplement.inverse_gradient factor.inverse local }
 {
     let gradient = local.point_gradient;
     factor.solve(gradient)
 }
 
 // Row i of five rows of three
-#[tactic(auto, unfolding(crate::specs::Elimination::cross_row))]
+#[tactic(auto, unfolding(crate::specs::SchurComplement::cross_row))]
 #[inline(always)]
 fn cross_row(cross: [f64; 15], i: usize) -> [f64; 3]
     requires { i < 5 }
-    ensures { result ≡ Elimination.cross_row cross i }
+    ensures { result ≡ SchurComplement.cross_row cross i }
 {
     array::from_fn(|j| cross[3 * i + j])
 }
 
 // Not `vectors::dot`, which begins at −0
-#[tactic(auto, unfolding(crate::specs::Elimination::dot3))]
+#[tactic(auto, unfolding(crate::specs::SchurComplement::dot3))]
 #[inline(always)]
 fn dot3(x: [f64; 3], y: [f64; 3]) -> f64
-    ensures { result ≡ Elimination.dot3 x y }
+    ensures { result ≡ SchurComplement.dot3 x y }
 {
     x[0] * y[0] + x[1] * y[1] + x[2] * y[2]
 }

@@ -31,22 +31,22 @@ pub(crate) fn norm<const N: usize>(g: [f64; N], d: [f64; N]) -> f64
     extrema::largest::<N>(array::from_fn(
         |i|
             requires { i < N }
-            ensures { GradientNorm.Scaled (g ! i) (d ! i) floor result }
+            ensures { GradientNorm.IsScaledEntry (g ! i) (d ! i) floor result }
         { scaled(g[i], d[i], floor) },
     ))
 }
 
 // Without a scale: 0 for an all-zero gradient, else +∞
-#[tactic(auto, using(crate::proofs::Norms::infinite), unfolding(crate::specs::GradientNorm::unscaled))]
+#[tactic(auto, using(crate::proofs::Norms::infinite), unfolding(crate::specs::GradientNorm::norm_without_scale))]
 fn unscaled(all_zero: bool) -> f64
-    ensures { result ≡ GradientNorm.unscaled all_zero }
+    ensures { result ≡ GradientNorm.norm_without_scale all_zero }
 {
     if all_zero { 0.0 } else { f64::INFINITY }
 }
 
 #[inline(always)]
 fn scaled(value: f64, curvature: f64, floor: f64) -> f64
-    ensures { GradientNorm.Scaled value curvature floor result }
+    ensures { GradientNorm.IsScaledEntry value curvature floor result }
 {
     numerics::abs(value) / root::sqrt(extrema::larger(floor, curvature))
 }

@@ -5,7 +5,7 @@
 // kernel/two_view/schur.rs.
 
 ghost use Rattle.std.specs.Prelude.{◌≡◌, ◌<◌};
-ghost use Rattle.refusal.specs.Answer.{answer};
+ghost use Rattle.refusal.specs.Outcome.{outcome};
 ghost use Rattle.schur.specs.PointStep as Steps;
 
 use crate::pose_model;
@@ -31,8 +31,8 @@ pub fn point_step_with_damping_norm(
     pose_step: [f64; 5],
 ) -> Result<PointStep, Refusal>
     ensures result { result ≡ Steps.point_step local damping pose_step }
-    ensures answer { answer Steps.no_step result
-        ≡ answer Steps.no_step (Steps.point_step local damping pose_step) }
+    ensures outcome { outcome Steps.zero_point_step result
+        ≡ outcome Steps.zero_point_step (Steps.point_step local damping pose_step) }
 {
     let damping = ValidDamping::new(damping)?;
     damped_step(PointTerms::from(local), damping, pose_step)
@@ -47,17 +47,17 @@ pub fn damped_step(
     pose_step: [f64; 5],
 ) -> Result<PointStep, Refusal>
     ensures result { result ≡ Steps.damped_step terms damping pose_step }
-    ensures answer { answer Steps.no_step result
-        ≡ answer Steps.no_step (Steps.damped_step terms damping pose_step) }
+    ensures outcome { outcome Steps.zero_point_step result
+        ≡ outcome Steps.zero_point_step (Steps.damped_step terms damping pose_step) }
 {
     let factor = PointBlockFactor::factor(terms.point_hessian, damping)?;
     Ok(stepped(factor, terms, pose_step))
 }
 
-#[tactic(auto, unfolding(crate::specs::PointStep::stepped))]
+#[tactic(auto, unfolding(crate::specs::PointStep::step_by_inverse))]
 #[inline(always)]
 fn stepped(factor: PointBlockFactor, terms: PointTerms, pose_step: [f64; 5]) -> PointStep
-    ensures { result ≡ Steps.stepped factor.inverse terms pose_step }
+    ensures { result ≡ Steps.step_by_inverse factor.inverse terms pose_step }
 {
     let step = step_of(factor, terms, pose_step);
     let diagonal = point_damping::floored_diagonal(terms.point_hessian);

@@ -6,8 +6,8 @@
 
 ghost use Rattle.std.specs.Prelude.{◌≡◌, ◌<◌};
 ghost use Rattle.std.specs.Result.{result_err};
-ghost use Rattle.refusal.specs.Answer.{answer};
-ghost use Rattle.schur.specs.System as System;
+ghost use Rattle.refusal.specs.Outcome.{outcome};
+ghost use Rattle.schur.specs.ReducedAdd as ReducedAdd;
 
 use crate::reduced_system::ReducedSystem;
 use crate::{elimination, gradient_norm, pose_model};
@@ -20,14 +20,14 @@ use refusal::Refusal;
 const MAX_BLOCKS: u16 = 65535;
 
 /// The system with a block taken in, by value. Tests rows 3, 12, 13.
-#[tactic(auto, unfolding(crate::specs::System::add))]
+#[tactic(auto, unfolding(crate::specs::ReducedAdd::add))]
 pub fn add(
     mut system: ReducedSystem,
     local: LocalLinearization,
     damping: f64,
 ) -> Result<ReducedSystem, Refusal>
-    ensures result { result ≡ System.add system local damping }
-    ensures answer { answer system result ≡ answer system (System.add system local damping) }
+    ensures result { result ≡ ReducedAdd.add system local damping }
+    ensures outcome { outcome system result ≡ outcome system (ReducedAdd.add system local damping) }
 {
     let damping = ValidDamping::new(damping)?;
     take_in(&mut system, local, damping)?;
@@ -41,8 +41,8 @@ pub fn add_to(
     local: LocalLinearization,
     damping: f64,
 ) -> Result<(), Refusal>
-    ensures refusal { result_err result ≡ result_err (System.add system.old local damping) }
-    ensures system { system.new ≡ System.handed_back system.old (System.add system.old local damping) }
+    ensures refusal { result_err result ≡ result_err (ReducedAdd.add system.old local damping) }
+    ensures system { system.new ≡ ReducedAdd.system_after system.old (ReducedAdd.add system.old local damping) }
 {
     *system = add(*system, local, damping)?;
     Ok(())
@@ -57,9 +57,9 @@ pub fn take_in(
     local: LocalLinearization,
     damping: ValidDamping,
 ) -> Result<(), Refusal>
-    ensures refusal { result ≡ System.check_room system.old }
+    ensures refusal { result ≡ ReducedAdd.check_room system.old }
     ensures system { system.new
-        ≡ System.handed_back system.old (System.take_in system.old local damping) }
+        ≡ ReducedAdd.system_after system.old (ReducedAdd.take_in system.old local damping) }
 {
     check_room(system)?;
     add_block(system, local, damping);
@@ -69,7 +69,7 @@ pub fn take_in(
 // Rows 12 and 13
 #[inline(always)]
 fn check_room(system: &ReducedSystem) -> Result<(), Refusal>
-    ensures { result ≡ System.check_room system.now }
+    ensures { result ≡ ReducedAdd.check_room system.now }
 {
     if system.weak_point_count > system.block_count {
         return Err(Refusal::WeakCount);
@@ -82,11 +82,11 @@ fn check_room(system: &ReducedSystem) -> Result<(), Refusal>
 
 // The equations change once the block's point is eliminated, and the sums take in what every block
 // brings.
-#[tactic(auto, unfolding(crate::specs::System::taken, crate::specs::System::taken_with))]
+#[tactic(auto, unfolding(crate::specs::ReducedAdd::with_block, crate::specs::ReducedAdd::taken_with))]
 #[inline(always)]
 fn add_block(system: &mut ReducedSystem, local: LocalLinearization, damping: ValidDamping)
-    requires { System.Free system.old }
-    ensures { system.new ≡ System.taken system.old local damping }
+    requires { ReducedAdd.HasRoom system.old }
+    ensures { system.new ≡ ReducedAdd.with_block system.old local damping }
 {
     let factored = elimination::eliminate(system, local, damping);
     system.cost += local.cost;

@@ -7,8 +7,8 @@
 
 ghost use Rattle.std.specs.Prelude.{◌≡◌};
 ghost use Rattle.numerics.specs.Binary64.{zero};
-ghost use Rattle.refusal.specs.Answer.{answer};
-ghost use Rattle.schur.specs.Model as Model;
+ghost use Rattle.refusal.specs.Outcome.{outcome};
+ghost use Rattle.schur.specs.Reduced as Reduced;
 
 use crate::{gradient_norm, pose_model};
 use numerics::{extrema, vectors};
@@ -36,9 +36,9 @@ pub struct ReducedSystem {
 
 impl ReducedSystem {
     /// A system with no block
-    #[tactic(auto, unfolding(crate::specs::Model::new_system))]
+    #[tactic(auto, unfolding(crate::specs::Reduced::new_system))]
     pub fn new() -> Self
-        ensures { result ≡ Model.new_system }
+        ensures { result ≡ Reduced.new_system }
     {
         Self {
             hessian: [0.0; 25],
@@ -57,10 +57,10 @@ impl ReducedSystem {
     }
 
     /// Adds the damping to the pose's diagonal. Tests row 3.
-    #[tactic(auto, unfolding(crate::specs::Model::finish_damping))]
+    #[tactic(auto, unfolding(crate::specs::Reduced::finish_damping))]
     pub fn finish_damping(mut self, damping: f64) -> Result<Self, Refusal>
-        ensures result { result ≡ Model.finish_damping self damping }
-        ensures answer { answer self result ≡ answer self (Model.finish_damping self damping) }
+        ensures result { result ≡ Reduced.finish_damping self damping }
+        ensures outcome { outcome self result ≡ outcome self (Reduced.finish_damping self damping) }
     {
         let damping = ValidDamping::new(damping)?;
         self.damp(damping);
@@ -68,32 +68,32 @@ impl ReducedSystem {
     }
 
     /// Adds the damping to the pose's diagonal, in place.
-    #[tactic(auto, unfolding(crate::specs::Model::with_hessian))]
+    #[tactic(auto, unfolding(crate::specs::Reduced::with_hessian))]
     pub fn damp(&mut self, damping: ValidDamping)
-        ensures { self.new ≡ Model.damped self.old damping }
+        ensures { self.new ≡ Reduced.with_damping self.old damping }
     {
         pose_model::damp_hessian(&mut self.hessian, self.pose_diagonal, damping.value());
     }
 
     /// Whether every block taken in factored, and the equations are finite
-    #[tactic(auto, unfolding(crate::specs::Model::is_valid))]
+    #[tactic(auto, unfolding(crate::specs::Reduced::is_valid))]
     pub fn is_valid(&self) -> bool
-        ensures { result ≡ Model.is_valid self.now }
+        ensures { result ≡ Reduced.is_valid self.now }
     {
         self.valid & vectors::all_finite(&self.gradient) & vectors::all_finite(&self.hessian)
     }
 
     /// The largest scaled gradient entry of all points and of the pose
-    #[tactic(auto, unfolding(crate::specs::Model::gradient_inf_norm))]
+    #[tactic(auto, unfolding(crate::specs::Reduced::gradient_inf_norm))]
     pub fn scaled_gradient_inf_norm(&self) -> f64
-        ensures { result ≡ Model.gradient_inf_norm self.now }
+        ensures { result ≡ Reduced.gradient_inf_norm self.now }
     {
         let pose = gradient_norm::norm(self.full_pose_gradient, self.pose_diagonal);
         extrema::max(self.scaled_point_gradient_inf_norm, pose)
     }
 
     /// What a step of the pose is predicted to gain. Tests row 3.
-    #[tactic(auto, unfolding(crate::specs::Model::predicted_reduction))]
+    #[tactic(auto, unfolding(crate::specs::Reduced::predicted_reduction))]
     pub fn predicted_reduction(
         &self,
         step: [f64; 5],
@@ -101,23 +101,23 @@ impl ReducedSystem {
         point_damping_norm: f64,
     ) -> Result<f64, Refusal>
         ensures result { result
-            ≡ Model.predicted_reduction self.now step damping point_damping_norm }
-        ensures answer { answer zero result
-            ≡ answer zero (Model.predicted_reduction self.now step damping point_damping_norm) }
+            ≡ Reduced.predicted_reduction self.now step damping point_damping_norm }
+        ensures outcome { outcome zero result
+            ≡ outcome zero (Reduced.predicted_reduction self.now step damping point_damping_norm) }
     {
         let damping = ValidDamping::new(damping)?;
         Ok(self.reduction_of(step, damping, point_damping_norm))
     }
 
     /// What a step of the pose is predicted to gain at a valid damping
-    #[tactic(auto, unfolding(crate::specs::Model::reduction_of))]
+    #[tactic(auto, unfolding(crate::specs::Reduced::reduction_of))]
     pub fn reduction_of(
         &self,
         step: [f64; 5],
         damping: ValidDamping,
         point_damping_norm: f64,
     ) -> f64
-        ensures { result ≡ Model.reduction_of self.now step damping point_damping_norm }
+        ensures { result ≡ Reduced.reduction_of self.now step damping point_damping_norm }
     {
         let undamped = self.point_model_reduction
             - pose_model::dot5(self.gradient, step)

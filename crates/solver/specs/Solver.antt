@@ -62,8 +62,8 @@ lower_of a =
     }
 
 -- every sum is finite, and no pivot is at or below 0
-unfoldable pub good_sums : List Float → Bool
-good_sums s =
+unfoldable pub has_valid_sums : List Float → Bool
+has_valid_sums s =
     all_finite s && not (le (s ! 0) zero) && not (le (s ! 6) zero) && not (le (s ! 12) zero) && not (le (s ! 18) zero) && not (le (s ! 24) zero)
 
 -- L y = b
@@ -90,8 +90,8 @@ unfoldable pub solution : List Float → List Float → List Float
 solution l b = backward l (forward l b)
 
 -- five times +0: what stands beside a refusal
-abbrev pub no_solution : List Float
-no_solution = zeros 5
+abbrev pub zero_solution : List Float
+zero_solution = zeros 5
 
 -- Row 11 where any input, any sum or any result is not finite or a pivot ≤ 0. The Rust leaves at
 -- the first of these; what it would have worked out afterwards decides nothing.
@@ -99,4 +99,4 @@ unfoldable pub solve_positive_definite : List Float → List Float → Result (L
 solve_positive_definite a b =
     let l = lower_of a in
     let x = solution l.entries b in
-    cond (all_finite a && all_finite b && good_sums l.sums && all_finite x) (Ok x) (Err NotSolved)
+    cond (all_finite a && all_finite b && has_valid_sums l.sums && all_finite x) (Ok x) (Err NotSolved)

@@ -6,9 +6,9 @@
 #![tactic(auto)]
 
 ghost use Rattle.std.specs.Prelude.{◌≡◌, ◌<◌, ◌≤◌};
-ghost use Rattle.refusal.specs.Answer.{answer};
+ghost use Rattle.refusal.specs.Outcome.{outcome};
 ghost use Rattle.solver.specs.Solver as Solver;
-ghost use Rattle.solver.specs.Solver.{no_solution};
+ghost use Rattle.solver.specs.Solver.{zero_solution};
 
 use numerics::vectors;
 use refusal::Refusal;
@@ -26,7 +26,7 @@ struct Lower {
 #[tactic(auto, unfolding(crate::specs::Solver::solve_positive_definite))]
 pub fn solve_positive_definite(a: [f64; 25], b: [f64; 5]) -> Result<[f64; 5], Refusal>
     ensures result { result ≡ Solver.solve_positive_definite a b }
-    ensures answer { answer no_solution result ≡ answer no_solution (Solver.solve_positive_definite a b) }
+    ensures outcome { outcome zero_solution result ≡ outcome zero_solution (Solver.solve_positive_definite a b) }
 {
     let lower = lower_of(a);
     let x = solution(lower.entries, b);
@@ -71,9 +71,9 @@ fn products(l: &[f64; 25], i: usize, j: usize) -> f64
 }
 
 // Whether every sum is finite and every pivot is above 0
-#[tactic(auto, unfolding(crate::specs::Solver::good_sums))]
+#[tactic(auto, unfolding(crate::specs::Solver::has_valid_sums))]
 fn good_sums(sums: [f64; 25]) -> bool
-    ensures { result ≡ Solver.good_sums sums }
+    ensures { result ≡ Solver.has_valid_sums sums }
 {
     vectors::all_finite(&sums)
         & !(sums[0] <= 0.0)

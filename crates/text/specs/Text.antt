@@ -27,29 +27,29 @@ ten_digits n =
     ∷ []
 
 -- a list without the zeros that it begins with, of which as many as k are passed over
-unfoldable pub without_zeros : ℕ → List ℕ → List ℕ
-without_zeros zero ds = ds
-without_zeros (suc k) [] = []
-without_zeros (suc k) (d ∷ ds) = cond (eqb d 48) (without_zeros k ds) (d ∷ ds)
+unfoldable pub without_leading_zeros : ℕ → List ℕ → List ℕ
+without_leading_zeros zero ds = ds
+without_leading_zeros (suc k) [] = []
+without_leading_zeros (suc k) (d ∷ ds) = cond (eqb d 48) (without_leading_zeros k ds) (d ∷ ds)
 
 -- a number of 32 bits in decimal; zero is one digit
 unfoldable pub decimal : ℕ → List ℕ
-decimal n = without_zeros 9 (ten_digits n)
+decimal n = without_leading_zeros 9 (ten_digits n)
 
 -- out, with a text in it from an offset on
-abbrev pub pasted : List ℕ → ℕ → List ℕ → List ℕ
-pasted out at text = take at out ++ text ++ drop (at + length text) out
+abbrev pub with_text : List ℕ → ℕ → List ℕ → List ℕ
+with_text out at text = take at out ++ text ++ drop (at + length text) out
 
 -- as much of a text as fits into out behind an offset
-abbrev pub fitting : List ℕ → ℕ → List ℕ → List ℕ
-fitting out at text = take (length out - at) text
+abbrev pub text_that_fits : List ℕ → ℕ → List ℕ → List ℕ
+text_that_fits out at text = take (length out - at) text
 
 -- what a call leaves that puts a text into out from an offset on, as much of it as fits: the
 -- next offset, and out
-unfoldable pub Put : List ℕ → ℕ → List ℕ → ℕ → List ℕ → Type 0
-Put text at out next after = (next ≡ at + length (fitting out at text)) × (after ≡ pasted out at (fitting out at text))
+unfoldable pub PutsText : List ℕ → ℕ → List ℕ → ℕ → List ℕ → Type 0
+PutsText text at out next after = (next ≡ at + length (text_that_fits out at text)) × (after ≡ with_text out at (text_that_fits out at text))
 
 -- what a call leaves that puts a text into a writer's buffer: the same buffer, with the text in
 -- it from the place on
-unfoldable pub Wrote : List ℕ → Writer → Writer → Type 0
-Wrote text old new = (new.out.ghost_name ≡ old.out.ghost_name) × Put text old.at old.out.now new.at new.out.now
+unfoldable pub AppendsText : List ℕ → Writer → Writer → Type 0
+AppendsText text old new = (new.out.ghost_name ≡ old.out.ghost_name) × PutsText text old.at old.out.now new.at new.out.now

@@ -10,7 +10,7 @@ ghost use Rattle.text.specs.Text as Text;
 // Puts as much of a text into out as fits from an offset on, and answers the place behind it.
 #[tactic(auto, using(crate::proofs::Puts::put_of, crate::proofs::Puts::put_beyond))]
 pub fn put(out: &mut [u8], at: usize, text: &[u8]) -> usize
-    ensures { Text.Put text.now at out.old result out.new }
+    ensures { Text.PutsText text.now at out.old result out.new }
 {
     if out.len() < at {
         return at;
@@ -36,9 +36,9 @@ impl<'a> Writer<'a> {
     }
 
     // Puts a text at the place, and moves the place behind it.
-    #[tactic(auto, unfolding(crate::specs::Text::Wrote))]
+    #[tactic(auto, unfolding(crate::specs::Text::AppendsText))]
     pub fn put(&mut self, text: &[u8])
-        ensures { Text.Wrote text.now self.old self.new }
+        ensures { Text.AppendsText text.now self.old self.new }
     {
         self.at = put(self.out, self.at, text);
     }
@@ -46,7 +46,7 @@ impl<'a> Writer<'a> {
     // Puts a number in decimal.
     #[tactic(auto, using(crate::proofs::Puts::tail), unfolding(crate::specs::Text::decimal))]
     pub fn put_decimal(&mut self, n: u32)
-        ensures { Text.Wrote (Text.decimal n) self.old self.new }
+        ensures { Text.AppendsText (Text.decimal n) self.old self.new }
     {
         let digits = ten_digits(n);
         let start = leading_zeros(&digits);
@@ -56,7 +56,7 @@ impl<'a> Writer<'a> {
     // Puts a number in decimal, and what follows it.
     #[tactic(auto, using(crate::proofs::Wrote::wrote_both))]
     pub fn put_decimal_then(&mut self, n: u32, after: &[u8])
-        ensures { Text.Wrote (Text.decimal n ++ after.now) self.old self.new }
+        ensures { Text.AppendsText (Text.decimal n ++ after.now) self.old self.new }
     {
         self.put_decimal(n);
         self.put(after);
@@ -65,7 +65,7 @@ impl<'a> Writer<'a> {
     // Puts three texts one after the other.
     #[tactic(auto, using(crate::proofs::Wrote::wrote_both))]
     pub fn put_three(&mut self, a: &[u8], b: &[u8], c: &[u8])
-        ensures { Text.Wrote (a.now ++ b.now ++ c.now) self.old self.new }
+        ensures { Text.AppendsText (a.now ++ b.now ++ c.now) self.old self.new }
     {
         self.put(a);
         self.put(b);
@@ -98,7 +98,7 @@ fn ten_digits(n: u32) -> [u8; 10]
 
 // How many zeros ten digits begin with, the last digit apart
 fn leading_zeros(digits: &[u8; 10]) -> usize
-    ensures { (result ≤ 9) × (drop result digits.now ≡ Text.without_zeros 9 digits.now) }
+    ensures { (result ≤ 9) × (drop result digits.now ≡ Text.without_leading_zeros 9 digits.now) }
 {
     digits[..9].iter().take_while(|d| **d == b'0').count()
 }

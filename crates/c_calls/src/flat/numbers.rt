@@ -1,14 +1,14 @@
 // The structs of the C interface as flat numbers, in the order in which `flat` reads them.
 
 ghost use Rattle.std.specs.Prelude.{◌≡◌};
-ghost use Rattle.c_calls.specs.FlatNumbers as FlatNumbers;
+ghost use Rattle.c_calls.specs.LayoutNumbers as LayoutNumbers;
 
 use crate::slices;
 use linearization::LocalLinearization;
 use schur::reduced_system::ReducedSystem;
 
 pub(crate) fn block_numbers(b: LocalLinearization) -> [f64; 59]
-    ensures { result ≡ FlatNumbers.block_numbers b }
+    ensures { result ≡ LayoutNumbers.block_numbers b }
 {
     let mut values = [0.0; 59];
     slices::copy(&b.pose_hessian, 0, &mut values);
@@ -21,7 +21,7 @@ pub(crate) fn block_numbers(b: LocalLinearization) -> [f64; 59]
 }
 
 pub(crate) fn system_numbers(s: ReducedSystem) -> [f64; 45]
-    ensures { result ≡ FlatNumbers.system_numbers s }
+    ensures { result ≡ LayoutNumbers.system_numbers s }
 {
     let mut values = [0.0; 45];
     slices::copy(&s.hessian, 0, &mut values);

@@ -2,7 +2,7 @@ use mathlib.Core.List.{[], ◌∷◌}
 use lib.Ieee.{binary64}
 use Rattle.numerics.specs.Vectors.{◌!◌}
 use Rattle.numerics.proofs.Finite.{product_tells}
-use Rattle.projection.specs.Projection.{all_finite}
+use Rattle.projection.specs.PixelProjection.{all_finite}
 use Rattle.projection.proofs.all_finite.Goals as goal
 
 pub returns : goal.returns

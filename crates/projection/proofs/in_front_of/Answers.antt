@@ -1,8 +1,8 @@
 use mathlib.Core.Path.{sym}
-use Rattle.projection.specs.Projection.{in_front}
+use Rattle.projection.specs.PixelProjection.{is_in_front}
 use Rattle.projection.proofs.Front.{front_by_comparisons}
 use Rattle.projection.proofs.in_front_of.Goals as goal
 
 pub returns : goal.returns
-unfolding in_front
+unfolding is_in_front
 returns c = sym (front_by_comparisons c.args.x c.args.y c.args.z (rw c.well_formed.1.1.0.1 tt))

@@ -7,16 +7,16 @@ use native.Mathlib.Omega.{arith}
 use lib.Dec.{T}
 use lib.Ieee.{Float, binary64, fits, lt, of_bits, to_bits}
 use Rattle.numerics.specs.Binary64 as Binary64
-use Rattle.numerics.specs.Parts.{is_finite}
-use Rattle.root.specs.Root.{sqrt, CorrectlyRounded}
+use Rattle.numerics.specs.Classify.{is_finite}
+use Rattle.root.specs.Root.{sqrt, IsCorrectlyRounded}
 use Rattle.root.proofs.Correct.{sqrt_correct}
 use Rattle.root.proofs.Read.{held, above_least, low_of_least, normal, no_nan, root}
 use Rattle.root.proofs.Rounded.{root_pattern}
 use Rattle.root.proofs.sqrt.Goals as goal
 
 -- what is the definition's root is IEEE 754's, where x is finite and above zero
-nearest : (x r : Float) → fits binary64 x ≡ true → r ≡ sqrt x → T (is_finite x) → T (lt Binary64.zero x) → CorrectlyRounded x r
-nearest x r f e finite above = subst (CorrectlyRounded x) (sym e) (sqrt_correct x (held x f) finite above)
+nearest : (x r : Float) → fits binary64 x ≡ true → r ≡ sqrt x → T (is_finite x) → T (lt Binary64.zero x) → IsCorrectlyRounded x r
+nearest x r f e finite above = subst (IsCorrectlyRounded x) (sym e) (sqrt_correct x (held x f) finite above)
 
 -- the guess is the nearest root
 module _ (c : goal.Then-is_nearest) where

@@ -9,7 +9,7 @@ use text::Writer;
 
 // `sum`, cost and squared residual bits, weak count, validity, verdict
 pub(crate) fn put_sum(writer: &mut Writer, system: ReducedSystem)
-    ensures { Text.Wrote (SumLine.sum_line system) writer.old writer.new }
+    ensures { Text.AppendsText (SumLine.sum_line system) writer.old writer.new }
 {
     let valid = system.is_valid();
     let weak = system.weak_point_count;

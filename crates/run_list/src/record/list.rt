@@ -39,7 +39,7 @@ impl Error for TooSmall {}
 /// Writes the list of a record into out, and answers its length. Where it does not fit, nothing is
 /// written.
 pub fn write_list(record: &[u8], out: &mut [u8]) -> Result<usize, TooSmall>
-    ensures { Lists.Wrote «record».now out.old result out.new }
+    ensures { Lists.WritesList «record».now out.old result out.new }
 {
     let mut list = [0u8; MAX_LIST];
     let length = put_list(&mut list, record);
@@ -51,9 +51,9 @@ pub fn write_list(record: &[u8], out: &mut [u8]) -> Result<usize, TooSmall>
 }
 
 // The list of any record: rows 14 and 15 first
-#[tactic(auto, unfolding(text::specs::Text::Wrote, crate::specs::Lists::list, crate::specs::Lists::check))]
+#[tactic(auto, unfolding(text::specs::Text::AppendsText, crate::specs::Lists::list, crate::specs::Lists::check_record))]
 fn put_list(out: &mut [u8], record: &[u8]) -> usize
-    ensures { Text.Put (Lists.list «record».now) 0 out.old result out.new }
+    ensures { Text.PutsText (Lists.list «record».now) 0 out.old result out.new }
 {
     let mut writer = Writer::new(out);
     match run::read(record) {
@@ -66,7 +66,7 @@ fn put_list(out: &mut [u8], record: &[u8]) -> usize
 // The list of a run: rows 3 to 9, then the lines
 fn put_listed(writer: &mut Writer, problem: &Problem)
     ensures { let p = Problems.of problem.now in
-        Text.Wrote (Lists.listed p (Checks.check p)) writer.old writer.new }
+        Text.AppendsText (Lists.lines_or_refusal p (Checks.check_problem p)) writer.old writer.new }
 {
     match CheckedProblem::new(problem) {
         Ok(checked) => put_lines(writer, &checked),
@@ -77,7 +77,7 @@ fn put_listed(writer: &mut Writer, problem: &Problem)
 // The lines of a run that is not refused
 #[tactic(auto, using(text::proofs::Wrote::wrote_both), unfolding(crate::specs::Lists::lines_of))]
 fn put_lines(writer: &mut Writer, problem: &CheckedProblem)
-    ensures { Text.Wrote (Lists.lines_of problem.now (Assembly.reduced_system problem.now))
+    ensures { Text.AppendsText (Lists.lines_of problem.now (Assembly.reduced_system problem.now))
         writer.old writer.new }
 {
     let fitting = problem.fitting();
@@ -89,7 +89,7 @@ fn put_lines(writer: &mut Writer, problem: &CheckedProblem)
 // A line for each point, with its index
 #[tactic(auto, using(crate::proofs::Runs::no_lines, crate::proofs::Runs::next_line))]
 fn put_points(writer: &mut Writer, problem: &CheckedProblem)
-    ensures { Text.Wrote (Lists.point_lines problem.now (Problems.count problem.now))
+    ensures { Text.AppendsText (Lists.point_lines problem.now (Problems.count problem.now))
         writer.old writer.new }
 {
     let fitting = problem.fitting();
@@ -102,7 +102,7 @@ fn put_points(writer: &mut Writer, problem: &CheckedProblem)
 
 // How the block of a point factors at a damping
 fn letter_of(point: ProblemPoint, damping: ValidDamping) -> u8
-    ensures { result ≡ Letters.letter
+    ensures { result ≡ Letters.letter_of
         (Assembly.block_at (Problems.of point.entry.fitting.problem.now) point.entry.index) damping }
 {
     let block = linearization::block_of(&point.fitting.problem.rig, point.correspondence());

@@ -5,7 +5,7 @@
 
 ghost use Rattle.std.specs.Prelude.{◌≡◌, ◌<◌};
 ghost use Rattle.schur.specs.BlockElimination as BlockElimination;
-ghost use Rattle.schur.specs.System as System;
+ghost use Rattle.schur.specs.ReducedAdd as ReducedAdd;
 
 use crate::elimination;
 use crate::reduced_system::ReducedSystem;
@@ -15,17 +15,17 @@ use point_block::PointBlockFactor;
 use point_block::point_damping::ValidDamping;
 
 // Changes the equations by a block and counts it where it is weak. Gives whether it factors.
-#[tactic(auto, unfolding(crate::specs::BlockElimination::eliminate, crate::specs::BlockElimination::eliminated, crate::specs::BlockElimination::not_eliminated))]
+#[tactic(auto, unfolding(crate::specs::BlockElimination::elimination_of, crate::specs::BlockElimination::after_elimination, crate::specs::BlockElimination::unfactored))]
 #[inline(always)]
 pub(crate) fn eliminate(
     system: &mut ReducedSystem,
     local: LocalLinearization,
     damping: ValidDamping,
 ) -> bool
-    requires { system.old.weak_point_count < System.max_blocks }
-    ensures factored { result ≡ (BlockElimination.eliminate system.old local damping).factored }
-    ensures system { system.new ≡ BlockElimination.changed system.old
-        (BlockElimination.eliminate system.old local damping) }
+    requires { system.old.weak_point_count < ReducedAdd.max_blocks }
+    ensures factored { result ≡ (BlockElimination.elimination_of system.old local damping).factored }
+    ensures system { system.new ≡ BlockElimination.with_equations system.old
+        (BlockElimination.elimination_of system.old local damping) }
 {
     match PointBlockFactor::factor(local.point_hessian, damping) {
         Ok(factor) => {
@@ -40,7 +40,7 @@ pub(crate) fn eliminate(
 }
 
 // A block that factors
-#[tactic(auto, unfolding(crate::specs::BlockElimination::eliminated))]
+#[tactic(auto, unfolding(crate::specs::BlockElimination::after_elimination))]
 #[inline(always)]
 fn eliminated(
     system: &mut ReducedSystem,
@@ -48,9 +48,9 @@ fn eliminated(
     damping: ValidDamping,
     factor: PointBlockFactor,
 )
-    requires { system.old.weak_point_count < System.max_blocks }
-    ensures { system.new ≡ BlockElimination.changed system.old
-        (BlockElimination.eliminated system.old local damping factor.inverse) }
+    requires { system.old.weak_point_count < ReducedAdd.max_blocks }
+    ensures { system.new ≡ BlockElimination.with_equations system.old
+        (BlockElimination.after_elimination system.old local damping factor.inverse) }
 {
     system.hessian = elimination::reduced_hessian(system.hessian, factor, local);
     system.gradient = elimination::reduced_gradient(system.gradient, factor, local);
@@ -67,12 +67,12 @@ fn eliminated(
 }
 
 // A block that does not factor: at damping zero it is weak with an rcond of 0.
-#[tactic(auto, unfolding(crate::specs::BlockElimination::not_eliminated))]
+#[tactic(auto, unfolding(crate::specs::BlockElimination::unfactored))]
 #[inline(always)]
 fn not_eliminated(system: &mut ReducedSystem, at_zero: bool)
-    requires { system.old.weak_point_count < System.max_blocks }
-    ensures { system.new ≡ BlockElimination.changed system.old
-        (BlockElimination.not_eliminated system.old at_zero) }
+    requires { system.old.weak_point_count < ReducedAdd.max_blocks }
+    ensures { system.new ≡ BlockElimination.with_equations system.old
+        (BlockElimination.unfactored system.old at_zero) }
 {
     if at_zero {
         system.minimum_point_rcond = 0.0;

@@ -1,5 +1,5 @@
 use Rattle.std.proofs.Common.{◌≡◌, Ok}
-use Rattle.refusal.specs.First.{first}
+use Rattle.refusal.specs.FirstRefusal.{first_refusal_from}
 use Rattle.refusal.proofs.Scans.{Scanned}
 use Rattle.problem.specs.Problem.{of, count}
 use Rattle.problem.specs.Checks.{check_projection}
@@ -14,4 +14,4 @@ invariant-views l =
 abbrev pub invariant-points : goal.invariant-points
 invariant-points l =
     let p = of l.fitting.problem.now in
-    (l.checked ≡ Ok tt) × (l.index-end ≡ count p) × Scanned (first (check_projection p) 0 (count p)) (check_projection p) (count p) l.index
+    (l.checked ≡ Ok tt) × (l.index-end ≡ count p) × Scanned (first_refusal_from (check_projection p) 0 (count p)) (check_projection p) (count p) l.index

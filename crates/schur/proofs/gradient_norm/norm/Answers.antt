@@ -4,11 +4,11 @@ use Rattle.std.proofs.lemmas.Iterator.Search.{all_from_yields_List}
 use Rattle.std.proofs.lemmas.List.Recursion.{same_from_clauses}
 use Rattle.std.specs.List.{list_all}
 use lib.Ieee.{eq}
-use Rattle.numerics.specs.Binary64.{◌⊗◌, zero, epsilon64}
+use Rattle.numerics.specs.Binary64.{◌⊗◌, zero, relative_tolerance}
 use Rattle.numerics.specs.Vectors.{◌!◌, all_zero}
 use Rattle.numerics.proofs.FromFn.{from_fn_tabulates}
 use Rattle.numerics.proofs.Laws.{floor_clear}
-use Rattle.schur.specs.GradientNorm.{scaled, Scaled}
+use Rattle.schur.specs.GradientNorm.{scaled_entry, IsScaledEntry}
 use Rattle.schur.proofs.Norms.{norm_unscaled, norm_scaled}
 use Rattle.schur.proofs.gradient_norm.norm.Goals as goal
 
@@ -28,5 +28,5 @@ returns g c =
     let long : length a.g ≡ n = search rules in
     let wide : length a.d ≡ n = search rules in
     let clear = floor_clear a.d s c.largest-scale.ensures in
-    let made = from_fn_tabulates _ (λ i. scaled (a.g ! i) (a.d ! i) (epsilon64 ⊗ s)) (λ i y q k. let h : (q ≡ _) × Scaled (a.g ! i) (a.d ! i) (epsilon64 ⊗ s) y = search rules in (h.0, h.1.is clear)) n c.from_fn.ensures.items in
+    let made = from_fn_tabulates _ (λ i. scaled_entry (a.g ! i) (a.d ! i) (relative_tolerance ⊗ s)) (λ i y q k. let h : (q ≡ _) × IsScaledEntry (a.g ! i) (a.d ! i) (relative_tolerance ⊗ s) y = search rules in (h.0, h.1.is clear)) n c.from_fn.ensures.items in
     norm_scaled n a.g a.d long wide s c.largest-scale.ensures _ _ (sym c.positive_finite.ensures ∙ c.if-not-positive_finite.false) made c.largest.ensures

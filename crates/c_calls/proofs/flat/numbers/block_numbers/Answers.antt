@@ -1,7 +1,7 @@
 use mathlib.Core.Path.{◌≡◌, refl}
 use borrow.Author.Rules.{rules}
 use lib.ListN.{length}
-use Rattle.c_calls.specs.FlatNumbers.{block_numbers}
+use Rattle.c_calls.specs.LayoutNumbers.{block_numbers}
 use Rattle.c_calls.proofs.Writing.{put_none, put_next, put_last}
 use Rattle.c_calls.proofs.flat.numbers.block_numbers.Goals as goal
 

@@ -2,18 +2,18 @@
 -- sense.
 use Rattle.std.specs.Prelude.{ℕ, List, ◌++◌, Result, Ok, Err, codes}
 use Rattle.std.specs.Fmt.{decimal}
-use Rattle.refusal.specs.Rows as Rows
+use Rattle.refusal.specs.RowNumbers as RowNumbers
 use Rattle.refusal.specs.declared.Row.{Row}
 use Rattle.refusal.specs.declared.View.{View}
 use Rattle.refusal.specs.declared.View.TheVariants.{First, Second}
 use Rattle.refusal.specs.declared.Refusal.{Refusal}
 use Rattle.refusal.specs.declared.Refusal.TheVariants.{Lengths, TooManyPoints, Damping, InverseDeviation, Baseline, Point, TooFewPoints, Observation, LoneProjection, Projection, NotFactored, NotSolved, WeakCount, Full, RecordTooLong, RecordForm}
 
-abbrev pub at : ℕ → ℕ → ℕ → Row
-at number view index = record { number = number; view = view; index = index }
+abbrev pub row_at : ℕ → ℕ → ℕ → Row
+row_at number view index = record { number = number; view = view; index = index }
 
-abbrev pub of : ℕ → Row
-of number = at number 0 0
+abbrev pub row_of : ℕ → Row
+row_of number = row_at number 0 0
 
 -- ---- the kinds of refusal, by number, view and index
 
@@ -22,26 +22,26 @@ view_number First = 1
 view_number Second = 2
 
 unfoldable pub row : Refusal → Row
-row Lengths = of Rows.lengths
-row TooManyPoints = of Rows.too_many_points
-row Damping = of Rows.damping
-row (InverseDeviation i) = at Rows.inverse_deviation 0 i
-row Baseline = of Rows.baseline
-row (Point i) = at Rows.point 0 i
-row TooFewPoints = of Rows.too_few_points
-row (Observation v i) = at Rows.observation (view_number v) i
-row LoneProjection = of Rows.projection
-row (Projection v i) = at Rows.projection (view_number v) i
-row NotFactored = of Rows.not_factored
-row NotSolved = of Rows.not_solved
-row WeakCount = of Rows.weak_count
-row Full = of Rows.full
-row RecordTooLong = of Rows.record_too_long
-row (RecordForm i) = at Rows.record_form 0 i
+row Lengths = row_of RowNumbers.lengths
+row TooManyPoints = row_of RowNumbers.too_many_points
+row Damping = row_of RowNumbers.damping
+row (InverseDeviation i) = row_at RowNumbers.inverse_standard_deviation 0 i
+row Baseline = row_of RowNumbers.baseline
+row (Point i) = row_at RowNumbers.point 0 i
+row TooFewPoints = row_of RowNumbers.too_few_points
+row (Observation v i) = row_at RowNumbers.observation (view_number v) i
+row LoneProjection = row_of RowNumbers.projection
+row (Projection v i) = row_at RowNumbers.projection (view_number v) i
+row NotFactored = row_of RowNumbers.not_factored
+row NotSolved = row_of RowNumbers.not_solved
+row WeakCount = row_of RowNumbers.weak_count
+row Full = row_of RowNumbers.full
+row RecordTooLong = row_of RowNumbers.record_too_long
+row (RecordForm i) = row_at RowNumbers.record_form 0 i
 
 -- `refused`, the number, the view and the index
-abbrev pub text : Refusal → List ℕ
-text r =
+abbrev pub refusal_text : Refusal → List ℕ
+refusal_text r =
     let numbers = row r in
     codes "refused " ++ decimal numbers.number ++ codes " " ++ decimal numbers.view ++ codes " "
     ++ decimal numbers.index

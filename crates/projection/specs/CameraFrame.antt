@@ -2,11 +2,11 @@
 -- translation, as `linearize_point` of schur.rs does.
 use Rattle.std.specs.Prelude.{◌≡◌, false, List, [], ◌∷◌, ℕ, ◌<◌, Float, Err}
 use Rattle.numerics.specs.Binary64.{◌⊕◌, ◌⊗◌}
-use Rattle.numerics.specs.Parts.{is_finite}
+use Rattle.numerics.specs.Classify.{is_finite}
 use Rattle.numerics.specs.Vectors.{◌!◌}
 use Rattle.refusal.specs.declared.Refusal.TheVariants.{LoneProjection}
 use Rattle.projection.specs.declared.PinholeCamera.{PinholeCamera}
-use Rattle.projection.specs.Projection.{pixel_projection}
+use Rattle.projection.specs.PixelProjection.{pixel_projection}
 
 -- `rotate` of schur.rs; the rotation is given by rows
 unfoldable pub rotate : List Float → List Float → List Float

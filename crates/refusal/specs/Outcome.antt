@@ -6,12 +6,12 @@
 use Rattle.std.specs.Prelude.{Result, Ok, Err}
 use Rattle.refusal.specs.declared.Refusal.{Refusal}
 use Rattle.refusal.specs.declared.Row.{Row}
-use Rattle.refusal.specs.Refused.{of, row}
+use Rattle.refusal.specs.RefusalRow.{row_of, row}
 
-pub record Answer (A : Type 0) : Type 0 where
+pub record Outcome (A : Type 0) : Type 0 where
   pub row : Row
   pub values : A
 
-abbrev pub answer : {A : Type 0} → A → Result A Refusal → Answer A
-answer refused (Ok x) = record { row = of 0; values = x }
-answer refused (Err r) = record { row = row r; values = refused }
+abbrev pub outcome : {A : Type 0} → A → Result A Refusal → Outcome A
+outcome refused (Ok x) = record { row = row_of 0; values = x }
+outcome refused (Err r) = record { row = row r; values = refused }

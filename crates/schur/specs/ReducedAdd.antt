@@ -3,30 +3,30 @@ use Rattle.std.specs.Prelude.{ℕ, suc, ◌<◌, ◌≤◌, ◌&&◌, cond, leb,
 use Rattle.numerics.specs.Extrema.{max}
 use Rattle.numerics.specs.Binary64.{◌⊕◌}
 use Rattle.std.specs.Result.{result_and}
-use Rattle.refusal.specs.Answer.{answer}
-use Rattle.refusal.specs.First.{Checked}
+use Rattle.refusal.specs.Outcome.{outcome}
+use Rattle.refusal.specs.FirstRefusal.{CheckResult}
 use Rattle.refusal.specs.declared.Refusal.{Refusal}
 use Rattle.refusal.specs.declared.Refusal.TheVariants.{Damping, WeakCount, Full}
-use Rattle.point_block.specs.Damping.{good_damping}
+use Rattle.point_block.specs.Damping.{is_valid_damping}
 use Rattle.linearization.specs.declared.linearize.LocalLinearization.{LocalLinearization}
 use Rattle.schur.specs.GradientNorm.{point_gradient_norm}
 use Rattle.schur.specs.PoseModel.{sum5, diagonal5}
 use Rattle.schur.specs.declared.reduced_system.ReducedSystem.{ReducedSystem}
-use Rattle.schur.specs.BlockElimination.{Change, raised, eliminate}
+use Rattle.schur.specs.BlockElimination.{Elimination, count_if, elimination_of}
 
 -- the most blocks that a system takes in
 abbrev pub max_blocks : ℕ
 max_blocks = 65535
 
 -- a system that takes one more block in: rows 12 and 13 do not refuse it
-abbrev pub Free : ReducedSystem → Type 0
-Free s = (s.block_count < max_blocks) × (s.weak_point_count ≤ s.block_count)
+abbrev pub HasRoom : ReducedSystem → Type 0
+HasRoom s = (s.block_count < max_blocks) × (s.weak_point_count ≤ s.block_count)
 
 -- ---- taking a block in
 
 -- The system with the block's costs, pose terms and gradient norm taken in, as every block is,
 -- and with what the elimination of its point changes. A block that does not factor clears the flag.
-unfoldable pub taken_with : ReducedSystem → LocalLinearization → Change → ℕ → ReducedSystem
+unfoldable pub taken_with : ReducedSystem → LocalLinearization → Elimination → ℕ → ReducedSystem
 taken_with s b e weak = record {
   hessian = e.hessian;
   gradient = e.gradient;
@@ -43,30 +43,30 @@ taken_with s b e weak = record {
 }
 
 -- a block taken in, once the elimination of its point is known
-abbrev pub taken_by : ReducedSystem → LocalLinearization → Change → ReducedSystem
-taken_by s b e = taken_with s b e (raised e.weak s.weak_point_count)
+abbrev pub taken_by : ReducedSystem → LocalLinearization → Elimination → ReducedSystem
+taken_by s b e = taken_with s b e (count_if e.weak s.weak_point_count)
 
-unfoldable pub taken : ReducedSystem → LocalLinearization → Float → ReducedSystem
-taken s b damping = taken_by s b (eliminate s b damping)
+unfoldable pub with_block : ReducedSystem → LocalLinearization → Float → ReducedSystem
+with_block s b damping = taken_by s b (elimination_of s b damping)
 
 -- rows 12 and 13
-abbrev pub check_room : ReducedSystem → Checked
+abbrev pub check_room : ReducedSystem → CheckResult
 check_room s =
     cond (leb s.weak_point_count s.block_count) (cond (ltb s.block_count max_blocks) (Ok tt) (Err Full))
     (Err WeakCount)
 
 -- `add` at a damping that row 3 lets through: rows 12 and 13, then the block taken in
 abbrev pub take_in : ReducedSystem → LocalLinearization → Float → Result ReducedSystem Refusal
-take_in s b damping = result_and (check_room s) (Ok (taken s b damping))
+take_in s b damping = result_and (check_room s) (Ok (with_block s b damping))
 
 -- `add` tests rows 3, 12, 13
 unfoldable pub add : ReducedSystem → LocalLinearization → Float → Result ReducedSystem Refusal
 add s b damping =
-    cond (good_damping damping)
-    (cond (leb s.weak_point_count s.block_count) (cond (ltb s.block_count max_blocks) (Ok (taken s b damping)) (Err Full)) (Err WeakCount))
+    cond (is_valid_damping damping)
+    (cond (leb s.weak_point_count s.block_count) (cond (ltb s.block_count max_blocks) (Ok (with_block s b damping)) (Err Full)) (Err WeakCount))
     (Err Damping)
 
 -- the system that a call leaves its caller with, the values of its answer: the one handed back,
 -- and, where it is refused, the one that the caller had
-abbrev pub handed_back : ReducedSystem → Result ReducedSystem Refusal → ReducedSystem
-handed_back s r = (answer s r).values
+abbrev pub system_after : ReducedSystem → Result ReducedSystem Refusal → ReducedSystem
+system_after s r = (outcome s r).values

@@ -14,8 +14,8 @@ abbrev pub damping : ℕ
 damping = 3
 
 -- inverse deviation not finite or ≤ 0
-abbrev pub inverse_deviation : ℕ
-inverse_deviation = 4
+abbrev pub inverse_standard_deviation : ℕ
+inverse_standard_deviation = 4
 
 -- baseline not finite or ≤ 64ε
 abbrev pub baseline : ℕ

@@ -4,11 +4,11 @@ use Rattle.std.specs.Prelude.{cond, List, Float, Result, Ok, Err}
 use Rattle.numerics.specs.Binary64.{zero}
 use Rattle.refusal.specs.declared.Refusal.{Refusal}
 use Rattle.refusal.specs.declared.Refusal.TheVariants.{Damping}
-use Rattle.point_block.specs.Damping.{good_damping, floored, added_diagonal, damped_matrix}
+use Rattle.point_block.specs.Damping.{is_valid_damping, damping_diagonal_of, with_added_diagonal, damped_matrix}
 use Rattle.point_block.specs.declared.PointBlockFactor.{PointBlockFactor}
 use Rattle.point_block.specs.declared.LoneFactor.{LoneFactor}
 use Rattle.point_block.specs.Cholesky.{inverse_by}
-use Rattle.point_block.specs.Factor.{no_factor, factor_damped}
+use Rattle.point_block.specs.Factor.{zero_factor, factor_damped}
 use Rattle.point_block.specs.Condition.{reciprocal_condition_number}
 
 -- the factor of the damped matrix; it depends on the matrix and the damping alone
@@ -19,16 +19,16 @@ factor m damping = elim (damped_matrix m damping) [ Ok d ↦ factor_damped d | E
 -- is one
 abbrev pub inverse_at : List Float → Float → List Float
 inverse_at m damping =
-    let damped = added_diagonal m damping (floored m) in
-    inverse_by damped (floored damped)
+    let damped = with_added_diagonal m damping (damping_diagonal_of m) in
+    inverse_by damped (damping_diagonal_of damped)
 
 -- +0 everywhere: what stands beside a refusal
-abbrev pub no_lone_factor : LoneFactor
-no_lone_factor = record { factor = no_factor; rcond = zero }
+abbrev pub zero_conditioned_factor : LoneFactor
+zero_conditioned_factor = record { factor = zero_factor; rcond = zero }
 
 -- the rcond is that of the matrix as handed in, undamped
-unfoldable pub lone_factor : List Float → Float → Result LoneFactor Refusal
-lone_factor m damping =
-    cond (good_damping damping)
+unfoldable pub factor_with_rcond : List Float → Float → Result LoneFactor Refusal
+factor_with_rcond m damping =
+    cond (is_valid_damping damping)
     (elim (factor m damping) [ Ok f ↦ Ok (record { factor = f; rcond = reciprocal_condition_number f.inverse m }) | Err r ↦ Err r ])
     (Err Damping)

@@ -1,10 +1,10 @@
 -- `pixel_projection` of projection.rs, operation by operation in the Rust's order and association.
 use Rattle.std.specs.Prelude.{Bool, not, ◌&&◌, cond, List, [], ◌∷◌, Float, Result, Ok, Err, is_ok}
 use Rattle.std.specs.Float.Ieee.{neg, le}
-use Rattle.numerics.specs.Binary64.{◌⊕◌, ◌⊖◌, ◌⊗◌, zero, epsilon64, recip}
-use Rattle.numerics.specs.Parts.{is_finite, abs}
+use Rattle.numerics.specs.Binary64.{◌⊕◌, ◌⊖◌, ◌⊗◌, zero, relative_tolerance, recip}
+use Rattle.numerics.specs.Classify.{is_finite, abs}
 use Rattle.numerics.specs.Vectors.{◌!◌, zeros}
-use Rattle.numerics.specs.Extrema.{largest}
+use Rattle.numerics.specs.Extrema.{fold_max}
 use Rattle.refusal.specs.declared.Refusal.{Refusal}
 use Rattle.refusal.specs.declared.Refusal.TheVariants.{LoneProjection}
 use Rattle.projection.specs.declared.PinholeCamera.{PinholeCamera}
@@ -13,14 +13,14 @@ use Rattle.projection.specs.declared.TestedProjection.{TestedProjection}
 
 -- every coordinate is finite, and the depth is not at or below 64ε times the largest absolute
 -- coordinate
-unfoldable pub in_front : List Float → Bool
-in_front point =
+unfoldable pub is_in_front : List Float → Bool
+is_in_front point =
     is_finite (point ! 0) && is_finite (point ! 1) && is_finite (point ! 2)
-    && not (le (point ! 2) (epsilon64 ⊗ largest (abs (point ! 0) ∷ abs (point ! 1) ∷ abs (point ! 2) ∷ [])))
+    && not (le (point ! 2) (relative_tolerance ⊗ fold_max (abs (point ! 0) ∷ abs (point ! 1) ∷ abs (point ! 2) ∷ [])))
 
 -- the residual, and the rows of the Jacobian
-unfoldable pub linearized : PinholeCamera → List Float → List Float → Projected
-linearized camera observation point =
+unfoldable pub residual_and_jacobian : PinholeCamera → List Float → List Float → Projected
+residual_and_jacobian camera observation point =
     let inverse_depth = recip (point ! 2) in
     let inverse_depth_squared = inverse_depth ⊗ inverse_depth in
     let x_numerator = camera.fx ⊗ point ! 0 ⊕ camera.skew ⊗ point ! 1 in
@@ -44,18 +44,18 @@ all_finite p =
     && is_finite (p.jacobian ! 5)
 
 -- +0 everywhere: what stands beside a refusal
-abbrev pub no_projection : Projected
-no_projection = record { residual = zeros 2; jacobian = zeros 6 }
+abbrev pub zero_projection : Projected
+zero_projection = record { residual = zeros 2; jacobian = zeros 6 }
 
 -- refused with row 9, with view 0 and index 0
 unfoldable pub pixel_projection : PinholeCamera → List Float → List Float → Result Projected Refusal
 pixel_projection camera observation point =
-    let p = linearized camera observation point in
-    cond (in_front point) (cond (all_finite p) (Ok p) (Err LoneProjection)) (Err LoneProjection)
+    let p = residual_and_jacobian camera observation point in
+    cond (is_in_front point) (cond (all_finite p) (Ok p) (Err LoneProjection)) (Err LoneProjection)
 
 -- the formulas' numbers, and whether they are refused
 abbrev pub tested_projection : PinholeCamera → List Float → List Float → TestedProjection
 tested_projection camera observation point = record {
-  projected = linearized camera observation point;
+  projected = residual_and_jacobian camera observation point;
   projectable = is_ok (pixel_projection camera observation point);
 }

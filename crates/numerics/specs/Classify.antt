@@ -12,10 +12,10 @@ negative (inf s) = s
 negative (fin s m e) = s
 
 -- a number with the sign clear: +0 and what lies above it, and neither −0 nor NaN
-unfoldable pub nonneg : Float → Bool
-nonneg nan = false
-nonneg (inf s) = not s
-nonneg (fin s m e) = not s
+unfoldable pub is_nonnegative : Float → Bool
+is_nonnegative nan = false
+is_nonnegative (inf s) = not s
+is_nonnegative (fin s m e) = not s
 
 -- `f64::is_finite`
 unfoldable pub is_finite : Float → Bool
@@ -23,8 +23,8 @@ is_finite nan = false
 is_finite (inf s) = false
 is_finite (fin s m e) = true
 
-abbrev pub positive_finite : Float → Bool
-positive_finite x = is_finite x && lt zero x
+abbrev pub is_positive_finite : Float → Bool
+is_positive_finite x = is_finite x && lt zero x
 
 -- `f64::abs`: the sign is cleared, of a zero too
 unfoldable pub abs : Float → Float

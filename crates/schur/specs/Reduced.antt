@@ -6,7 +6,7 @@ use Rattle.numerics.specs.Binary64.{◌⊕◌, ◌⊖◌, ◌⊗◌, zero, half,
 use Rattle.numerics.specs.Vectors.{all_finite, zeros}
 use Rattle.refusal.specs.declared.Refusal.{Refusal}
 use Rattle.refusal.specs.declared.Refusal.TheVariants.{Damping}
-use Rattle.point_block.specs.Damping.{good_damping}
+use Rattle.point_block.specs.Damping.{is_valid_damping}
 use Rattle.schur.specs.GradientNorm.{scaled_gradient_inf_norm}
 use Rattle.schur.specs.PoseDamping.{damped_hessian, pose_damping_norm}
 use Rattle.schur.specs.PoseModel.{dot5, quadratic}
@@ -45,12 +45,12 @@ with_hessian s h = record {
 }
 
 -- with the damping added to the pose's diagonal
-abbrev pub damped : ReducedSystem → Float → ReducedSystem
-damped s damping = with_hessian s (damped_hessian s.hessian s.pose_diagonal damping)
+abbrev pub with_damping : ReducedSystem → Float → ReducedSystem
+with_damping s damping = with_hessian s (damped_hessian s.hessian s.pose_diagonal damping)
 
 -- tests row 3
 unfoldable pub finish_damping : ReducedSystem → Float → Result ReducedSystem Refusal
-finish_damping s damping = cond (good_damping damping) (Ok (damped s damping)) (Err Damping)
+finish_damping s damping = cond (is_valid_damping damping) (Ok (with_damping s damping)) (Err Damping)
 
 unfoldable pub is_valid : ReducedSystem → Bool
 is_valid s = s.valid && all_finite s.gradient && all_finite s.hessian
@@ -65,4 +65,4 @@ reduction_of s step damping point_damping_norm =
 
 -- tests row 3
 unfoldable pub predicted_reduction : ReducedSystem → List Float → Float → Float → Result Float Refusal
-predicted_reduction s step damping point_damping_norm = cond (good_damping damping) (Ok (reduction_of s step damping point_damping_norm)) (Err Damping)
+predicted_reduction s step damping point_damping_norm = cond (is_valid_damping damping) (Ok (reduction_of s step damping point_damping_norm)) (Err Damping)
