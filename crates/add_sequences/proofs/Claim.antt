@@ -24,7 +24,7 @@ use Rattle.point_block.specs.Condition.{reciprocal_condition_number, is_weak}
 use Rattle.point_block.specs.Damping.{is_valid_damping, is_zero}
 use Rattle.point_block.specs.FactorWithRcond.{factor, factor_with_rcond}
 use Rattle.point_block.specs.declared.PointBlockFactor.{PointBlockFactor}
-use Rattle.point_block.specs.declared.LoneFactor.{LoneFactor}
+use Rattle.point_block.specs.declared.ConditionedFactor.{ConditionedFactor}
 use Rattle.point_block.proofs.Laws.{lone_factors, rcond_nonneg}
 use Rattle.linearization.specs.declared.linearize.LocalLinearization.{LocalLinearization}
 use Rattle.schur.specs.declared.reduced_system.ReducedSystem.{ReducedSystem}
@@ -72,7 +72,7 @@ module _ (d : Float) (good : T (is_valid_damping d)) where
   same_factor b = sym (lone_factors b.point_hessian d good)
 
   -- the lone factor's answer, by the factor's
-  abbrev lone_of : LocalLinearization → Result PointBlockFactor Refusal → Result LoneFactor Refusal
+  abbrev lone_of : LocalLinearization → Result PointBlockFactor Refusal → Result ConditionedFactor Refusal
   lone_of b f = elim f [ Ok g ↦ Ok (record { factor = g; rcond = reciprocal_condition_number g.inverse b.point_hessian }) | Err r ↦ Err r ]
 
   same_rcond : (b : LocalLinearization) → factors d b ≡ true → is_weak (reciprocal_condition_number (inverse b) b.point_hessian) ≡ is_ill_conditioned d b

@@ -46,7 +46,7 @@ block_sized (Err r) v w = record { pose_hessian = refl; cross_hessian = refl; po
 
 made_sized : (i : Inputs) → SizedBlock (linearization_of i)
 unfolding Linearize.linearize_point Linearize.block_of
-made_sized i = block_sized (check_views i.rig i.correspondence) (views_of i.rig i.correspondence) i.correspondence.inverse_deviation
+made_sized i = block_sized (check_views i.rig i.correspondence) (views_of i.rig i.correspondence) i.correspondence.inverse_standard_deviation
 
 new_sized : Sized new_system
 unfolding new_system

@@ -16,11 +16,11 @@ unfoldable pub rig : List Float → Rig
 rig x = record {
   camera1 = camera (part 0 5 x);
   camera2 = camera (part 5 5 x);
-  pose = record { rotation = part 10 9 x; translation = part 19 3 x; basis = part 22 6 x; baseline = x ! 28 };
+  pose = record { rotation = part 10 9 x; translation = part 19 3 x; translation_basis = part 22 6 x; baseline = x ! 28 };
 }
 
 unfoldable pub correspondence : List Float → Correspondence
-correspondence x = record { point = part 0 3 x; view1 = part 3 2 x; view2 = part 5 2 x; inverse_deviation = x ! 7 }
+correspondence x = record { point = part 0 3 x; view1 = part 3 2 x; view2 = part 5 2 x; inverse_standard_deviation = x ! 7 }
 
 unfoldable pub block : List Float → LocalLinearization
 block x = record {

@@ -11,11 +11,11 @@ use Rattle.point_block.specs.Factor as Factor
 use Rattle.point_block.specs.Condition as Condition
 use Rattle.point_block.specs.FactorWithRcond as FactorWithRcond
 use Rattle.solver.specs.Solver as Solver
-use Rattle.point_block.specs.declared.LoneFactor.{LoneFactor}
+use Rattle.point_block.specs.declared.ConditionedFactor.{ConditionedFactor}
 use Rattle.c_calls.specs.Outcomes.{if_lengths_fit, has_length}
 
 -- inverse and rcond
-abbrev pub factor_numbers : LoneFactor → List Float
+abbrev pub factor_numbers : ConditionedFactor → List Float
 factor_numbers f =
     let i = f.factor.inverse in
     i ! 0 ∷ i ! 1 ∷ i ! 2 ∷ i ! 3 ∷ i ! 4 ∷ i ! 5 ∷ f.rcond ∷ []

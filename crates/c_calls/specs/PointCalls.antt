@@ -6,14 +6,14 @@ use Rattle.refusal.specs.RefusalRow.{map_ok}
 use Rattle.projection.specs.PixelProjection as PixelProjection
 use Rattle.linearization.specs.Linearize as Linearize
 use Rattle.schur.specs.PointStep as PointStep
-use Rattle.projection.specs.declared.Projected.{Projected}
+use Rattle.projection.specs.declared.Projection.{Projection}
 use Rattle.schur.specs.declared.point_step.PointStep.{PointStep as PointStep·}
 use Rattle.c_calls.specs.Layout.{camera, rig, correspondence, block}
 use Rattle.c_calls.specs.LayoutNumbers.{block_numbers}
 use Rattle.c_calls.specs.Outcomes.{if_lengths_fit, has_length}
 
 -- residual and Jacobian
-abbrev pub projection_numbers : Projected → List Float
+abbrev pub projection_numbers : Projection → List Float
 projection_numbers p =
     let r = p.residual in
     let j = p.jacobian in

@@ -5,8 +5,8 @@ ghost use Rattle.std.specs.Prelude.{◌≡◌};
 ghost use Rattle.c_calls.specs.Outcomes as Outcomes;
 ghost use Rattle.c_calls.specs.PointCalls as Calls;
 
-use crate::{answers, flat, slices};
-use projection::Projected;
+use crate::{layout, outcomes, slices};
+use projection::Projection;
 use schur::point_step;
 use schur::point_step::PointStep;
 
@@ -18,14 +18,14 @@ pub fn pixel_projection(camera: &[f64], observation: &[f64], point: &[f64], out:
         (Calls.pixel_projection camera.now observation.now point.now out.old) }
 {
     if camera.len() != 5 || observation.len() != 2 || point.len() != 3 || out.len() != 8 {
-        return answers::lengths();
+        return outcomes::lengths();
     }
     let projected = projection::pixel_projection(
-        &flat::camera(slices::whole(camera)),
+        &layout::camera(slices::whole(camera)),
         slices::whole(observation),
         slices::whole(point),
     );
-    answers::answer(projected.map(projection_numbers), out)
+    outcomes::store_result(projected.map(projection_numbers), out)
 }
 
 /// The block of a point. rig: 29; correspondence: point, view 1, view 2, inverse deviation, 8; out:
@@ -36,13 +36,13 @@ pub fn linearize_point(rig: &[f64], correspondence: &[f64], out: &mut [f64]) -> 
         (Calls.linearize_point rig.now correspondence.now out.old) }
 {
     if rig.len() != 29 || correspondence.len() != 8 || out.len() != 59 {
-        return answers::lengths();
+        return outcomes::lengths();
     }
     let block = linearization::linearize_point(
-        &flat::rig(rig),
-        flat::correspondence(correspondence),
+        &layout::rig(rig),
+        layout::correspondence(correspondence),
     );
-    answers::answer(block.map(flat::numbers::block_numbers), out)
+    outcomes::store_result(block.map(layout::numbers::block_numbers), out)
 }
 
 /// How a point moves with a step of the pose. pose_step: 5; out: step 3, damping norm
@@ -57,18 +57,18 @@ pub fn point_step_with_damping_norm(
         (Calls.point_step block.now damping pose_step.now out.old) }
 {
     if block.len() != 59 || pose_step.len() != 5 || out.len() != 4 {
-        return answers::lengths();
+        return outcomes::lengths();
     }
     let step = point_step::point_step_with_damping_norm(
-        flat::block(block),
+        layout::block(block),
         damping,
         slices::whole(pose_step),
     );
-    answers::answer(step.map(point_step_numbers), out)
+    outcomes::store_result(step.map(point_step_numbers), out)
 }
 
 // Residual and Jacobian
-fn projection_numbers(p: Projected) -> [f64; 8]
+fn projection_numbers(p: Projection) -> [f64; 8]
     ensures { result ≡ Calls.projection_numbers p }
 {
     let r = p.residual;

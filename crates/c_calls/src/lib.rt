@@ -5,13 +5,13 @@
 // every length. `pixel_step` exports them under their C names.
 #![tactic(auto)]
 
-mod answers;
+mod adds_over_c;
 pub mod block_calls;
-mod flat;
-mod flat_lists;
+mod layout;
 pub mod matrix_calls;
+mod outcomes;
 mod slices;
 pub mod step_calls;
 pub mod system_calls;
 
-pub use flat_lists::{every_list_over_c, every_number_beside_a_refusal_is_zero};
+pub use adds_over_c::{every_list_over_c, every_number_beside_a_refusal_is_zero};

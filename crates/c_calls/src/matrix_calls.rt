@@ -5,9 +5,9 @@ ghost use Rattle.std.specs.Prelude.{◌≡◌};
 ghost use Rattle.c_calls.specs.Outcomes as Outcomes;
 ghost use Rattle.c_calls.specs.MatrixCalls as Calls;
 
-use crate::{answers, slices};
+use crate::{outcomes, slices};
 use point_block::point_damping::ValidDamping;
-use point_block::{LoneFactor, PointBlockFactor, point_damping};
+use point_block::{ConditionedFactor, PointBlockFactor, point_damping};
 
 /// The diagonal that the damping scales. out: 3
 #[tactic(auto, unfolding(crate::specs::MatrixCalls::damping_diagonal))]
@@ -15,9 +15,9 @@ pub fn damping_diagonal(matrix: &[f64], out: &mut [f64]) -> u64
     ensures { Outcomes.HasOutcome result out.new (Calls.damping_diagonal matrix.now out.old) }
 {
     if matrix.len() != 9 || out.len() != 3 {
-        return answers::lengths();
+        return outcomes::lengths();
     }
-    answers::answer(point_damping::damping_diagonal(slices::whole(matrix)), out)
+    outcomes::store_result(point_damping::damping_diagonal(slices::whole(matrix)), out)
 }
 
 /// The damped matrix. Tests row 3 before the matrix. out: 9
@@ -26,13 +26,13 @@ pub fn damped_matrix(matrix: &[f64], damping: f64, out: &mut [f64]) -> u64
     ensures { Outcomes.HasOutcome result out.new (Calls.damped_matrix matrix.now damping out.old) }
 {
     if matrix.len() != 9 || out.len() != 9 {
-        return answers::lengths();
+        return outcomes::lengths();
     }
     let matrix = slices::whole(matrix);
     let damped = ValidDamping::new(damping).and_then(|damping| point_damping::damped_matrix(
         matrix, damping,
     ));
-    answers::answer(damped, out)
+    outcomes::store_result(damped, out)
 }
 
 /// The packed inverse. matrix: damped already; out: 6
@@ -41,10 +41,10 @@ pub fn factor_damped(matrix: &[f64], out: &mut [f64]) -> u64
     ensures { Outcomes.HasOutcome result out.new (Calls.factor_damped matrix.now out.old) }
 {
     if matrix.len() != 9 || out.len() != 6 {
-        return answers::lengths();
+        return outcomes::lengths();
     }
     let factor = PointBlockFactor::factor_damped(slices::whole(matrix));
-    answers::answer(factor.map(packed), out)
+    outcomes::store_result(factor.map(packed), out)
 }
 
 /// The lone factor. out: inverse 6, rcond
@@ -53,10 +53,10 @@ pub fn factor_new(matrix: &[f64], damping: f64, out: &mut [f64]) -> u64
     ensures { Outcomes.HasOutcome result out.new (Calls.factor_with_rcond matrix.now damping out.old) }
 {
     if matrix.len() != 9 || out.len() != 7 {
-        return answers::lengths();
+        return outcomes::lengths();
     }
-    let lone = PointBlockFactor::new(slices::whole(matrix), damping);
-    answers::answer(lone.map(factor_numbers), out)
+    let lone = PointBlockFactor::factor_with_rcond(slices::whole(matrix), damping);
+    outcomes::store_result(lone.map(factor_numbers), out)
 }
 
 /// The inverse times a vector. inverse: 6; x: 3; out: 3
@@ -65,12 +65,12 @@ pub fn factor_solve(inverse: &[f64], x: &[f64], out: &mut [f64]) -> u64
     ensures { Outcomes.HasOutcome result out.new (Calls.factor_solve inverse.now x.now out.old) }
 {
     if inverse.len() != 6 || x.len() != 3 || out.len() != 3 {
-        return answers::lengths();
+        return outcomes::lengths();
     }
     let factor = PointBlockFactor {
         inverse: slices::whole(inverse),
     };
-    answers::answer(Ok(factor.solve(slices::whole(x))), out)
+    outcomes::store_result(Ok(factor.solve(slices::whole(x))), out)
 }
 
 /// The reciprocal condition number. inverse: 6; matrix: 9; out: 1
@@ -80,13 +80,13 @@ pub fn reciprocal_condition_number(inverse: &[f64], matrix: &[f64], out: &mut [f
         (Calls.reciprocal_condition_number inverse.now matrix.now out.old) }
 {
     if inverse.len() != 6 || matrix.len() != 9 || out.len() != 1 {
-        return answers::lengths();
+        return outcomes::lengths();
     }
     let factor = PointBlockFactor {
         inverse: slices::whole(inverse),
     };
     let rcond = factor.reciprocal_condition_number(slices::whole(matrix));
-    answers::answer(Ok([rcond]), out)
+    outcomes::store_result(Ok([rcond]), out)
 }
 
 /// The solution of five equations. a: 25 numbers, row by row; b: 5; out: 5
@@ -96,10 +96,10 @@ pub fn solve_positive_definite(a: &[f64], b: &[f64], out: &mut [f64]) -> u64
         (Calls.solve_positive_definite a.now b.now out.old) }
 {
     if a.len() != 25 || b.len() != 5 || out.len() != 5 {
-        return answers::lengths();
+        return outcomes::lengths();
     }
     let x = solver::solve_positive_definite(slices::whole(a), slices::whole(b));
-    answers::answer(x, out)
+    outcomes::store_result(x, out)
 }
 
 // With a closure in its place the proof did not close.
@@ -110,7 +110,7 @@ fn packed(factor: PointBlockFactor) -> [f64; 6]
 }
 
 // Inverse and rcond
-fn factor_numbers(f: LoneFactor) -> [f64; 7]
+fn factor_numbers(f: ConditionedFactor) -> [f64; 7]
     ensures { result ≡ Calls.factor_numbers f }
 {
     let i = f.factor.inverse;

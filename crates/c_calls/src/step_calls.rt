@@ -7,18 +7,18 @@ ghost use Rattle.c_calls.specs.Outcomes as Outcomes;
 ghost use Rattle.c_calls.specs.Layout as Layout;
 ghost use Rattle.c_calls.specs.StepCalls as Calls;
 
-use crate::{answers, flat, slices};
+use crate::{layout, outcomes, slices};
 use optimizer::{StepResult, pose_step};
 use problem::correspondences::Problem;
 
-/// One whole step. For n points: points and room 3n, views 2n each, inverse deviations n; rig: 29;
+/// One whole step. For n points: points and room 3n, views 2n each, inverse inverse_standard_deviations n; rig: 29;
 /// out: 12; weak: 1. C hands the lists over one by one.
 #[tactic(auto, unfolding(crate::specs::StepCalls::step, crate::specs::Outcomes::code))]
 pub fn step<'a>(
     points: &[f64],
     view1: &'a [f64],
     view2: &'a [f64],
-    inverse_deviations: &[f64],
+    inverse_standard_deviations: &[f64],
     rig: &[f64],
     damping: f64,
     room: &mut [f64],
@@ -26,23 +26,23 @@ pub fn step<'a>(
     weak: &mut [u16],
 ) -> u64
     ensures { Calls.HasStepOutcome result room.new out.new weak.new
-        (Calls.step (Problems.problem points.now view1.now view2.now inverse_deviations.now (Layout.rig rig.now) damping)
+        (Calls.step (Problems.problem points.now view1.now view2.now inverse_standard_deviations.now (Layout.rig rig.now) damping)
         rig.now room.old out.old weak.old) }
 {
     if rig.len() != 29 || out.len() != 12 || weak.len() != 1 {
-        return answers::lengths();
+        return outcomes::lengths();
     }
     let problem = Problem {
         points,
         view1,
         view2,
-        inverse_deviations,
-        rig: flat::rig(rig),
+        inverse_standard_deviations,
+        rig: layout::rig(rig),
         damping,
     };
     let step = match optimizer::step(&problem, room) {
         Ok(step) => step,
-        Err(refusal) => return answers::code(refusal),
+        Err(refusal) => return outcomes::code(refusal),
     };
     out.copy_from_slice(&step_numbers(step));
     weak.copy_from_slice(&[step.weak_point_count]);
@@ -55,9 +55,9 @@ pub fn limit_pose_step(x: &[f64], out: &mut [f64]) -> u64
     ensures { Outcomes.HasOutcome result out.new (Calls.limit_pose_step x.now out.old) }
 {
     if x.len() != 5 || out.len() != 5 {
-        return answers::lengths();
+        return outcomes::lengths();
     }
-    answers::answer(Ok(pose_step::limit_pose_step(slices::whole(x))), out)
+    outcomes::store_result(Ok(pose_step::limit_pose_step(slices::whole(x))), out)
 }
 
 fn step_numbers(s: StepResult) -> [f64; 12]

@@ -6,7 +6,7 @@ ghost use Rattle.c_calls.specs.Outcomes as Outcomes;
 ghost use Rattle.c_calls.specs.LayoutNumbers as LayoutNumbers;
 ghost use Rattle.c_calls.specs.SystemCalls as Calls;
 
-use crate::{answers, flat, slices};
+use crate::{layout, outcomes, slices};
 use refusal::Refusal;
 use schur::reduced_system::ReducedSystem;
 
@@ -17,7 +17,7 @@ pub fn system_new(system: &mut [f64], counts: &mut [u16]) -> u64
         (Calls.new_system system.old counts.old) }
 {
     if system.len() != 45 || counts.len() != 3 {
-        return answers::lengths();
+        return outcomes::lengths();
     }
     answer(Ok(ReducedSystem::new()), system, counts)
 }
@@ -29,10 +29,10 @@ pub fn system_add(system: &mut [f64], counts: &mut [u16], block: &[f64], damping
         (Calls.add system.old counts.old block.now damping) }
 {
     if system.len() != 45 || counts.len() != 3 || block.len() != 59 {
-        return answers::lengths();
+        return outcomes::lengths();
     }
-    let s = flat::system(system, counts);
-    let added = schur::add(s, flat::block(block), damping);
+    let s = layout::system(system, counts);
+    let added = schur::add(s, layout::block(block), damping);
     answer(added, system, counts)
 }
 
@@ -43,9 +43,9 @@ pub fn system_finish_damping(system: &mut [f64], counts: &mut [u16], damping: f6
         (Calls.finish_damping system.old counts.old damping) }
 {
     if system.len() != 45 || counts.len() != 3 {
-        return answers::lengths();
+        return outcomes::lengths();
     }
-    let s = flat::system(system, counts);
+    let s = layout::system(system, counts);
     let finished = s.finish_damping(damping);
     answer(finished, system, counts)
 }
@@ -57,9 +57,9 @@ pub fn system_is_valid(system: &[f64], counts: &[u16], out: &mut [u16]) -> u64
         (Calls.is_valid system.now counts.now out.old) }
 {
     if system.len() != 45 || counts.len() != 3 || out.len() != 1 {
-        return answers::lengths();
+        return outcomes::lengths();
     }
-    let s = flat::system(system, counts);
+    let s = layout::system(system, counts);
     out[0] = flag(s.is_valid());
     0
 }
@@ -71,10 +71,10 @@ pub fn system_scaled_gradient_inf_norm(system: &[f64], counts: &[u16], out: &mut
         (Calls.gradient_inf_norm system.now counts.now out.old) }
 {
     if system.len() != 45 || counts.len() != 3 || out.len() != 1 {
-        return answers::lengths();
+        return outcomes::lengths();
     }
-    let s = flat::system(system, counts);
-    answers::answer(Ok([s.scaled_gradient_inf_norm()]), out)
+    let s = layout::system(system, counts);
+    outcomes::store_result(Ok([s.scaled_gradient_inf_norm()]), out)
 }
 
 /// What a step of the pose is predicted to gain. step: 5; out: 1
@@ -91,11 +91,11 @@ pub fn system_predicted_reduction(
         (Calls.predicted_reduction system.now counts.now step.now damping point_damping_norm out.old) }
 {
     if system.len() != 45 || counts.len() != 3 || step.len() != 5 || out.len() != 1 {
-        return answers::lengths();
+        return outcomes::lengths();
     }
-    let s = flat::system(system, counts);
+    let s = layout::system(system, counts);
     let predicted = s.predicted_reduction(slices::whole(step), damping, point_damping_norm);
-    answers::answer(predicted.map(alone), out)
+    outcomes::store_result(predicted.map(alone), out)
 }
 
 // One number as an array: with a closure in its place the proof did not close
@@ -114,9 +114,9 @@ fn answer(answered: Result<ReducedSystem, Refusal>, system: &mut [f64], counts: 
 {
     let next = match answered {
         Ok(next) => next,
-        Err(refusal) => return answers::code(refusal),
+        Err(refusal) => return outcomes::code(refusal),
     };
-    system.copy_from_slice(&flat::numbers::system_numbers(next));
+    system.copy_from_slice(&layout::numbers::system_numbers(next));
     counts.copy_from_slice(&[next.weak_point_count, next.block_count, flag(next.valid)]);
     0
 }

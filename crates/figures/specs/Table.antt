@@ -7,11 +7,11 @@ use Rattle.numerics.specs.Binary64.{zero, neg_zero, half, one}
 use Rattle.root.specs.Root.{sqrt}
 use Rattle.refusal.specs.RefusalRow.{map_ok}
 use Rattle.refusal.specs.declared.Refusal.{Refusal}
-use Rattle.refusal.specs.declared.Refusal.TheVariants.{LoneProjection, NotFactored}
+use Rattle.refusal.specs.declared.Refusal.TheVariants.{NotProjectable, NotFactored}
 use Rattle.projection.specs.PixelProjection.{pixel_projection}
 use Rattle.projection.specs.declared.PinholeCamera.{PinholeCamera}
 use Rattle.point_block.specs.declared.PointBlockFactor.{PointBlockFactor}
-use Rattle.point_block.specs.declared.LoneFactor.{LoneFactor}
+use Rattle.point_block.specs.declared.ConditionedFactor.{ConditionedFactor}
 use Rattle.point_block.specs.FactorWithRcond.{factor, factor_with_rcond}
 use Rattle.point_block.specs.Condition.{reciprocal_condition_number, is_weak}
 use Rattle.optimizer.specs.PoseStep.{limit_pose_step}
@@ -29,7 +29,7 @@ diagonal a b c = a ∷ zero ∷ zero ∷ zero ∷ b ∷ zero ∷ zero ∷ zero �
 
 -- the rcond of the lone factor at damping 0
 abbrev pub rcond_of : List Float → Result Float Refusal
-rcond_of m = map_ok (λ (f : LoneFactor). f.rcond) (factor_with_rcond m zero)
+rcond_of m = map_ok (λ (f : ConditionedFactor). f.rcond) (factor_with_rcond m zero)
 
 -- whether the lone factor is there at damping 0, and the weak test of `add`
 abbrev pub weak_of : List Float → Bool × Result Bool Refusal
@@ -55,7 +55,7 @@ pub data Row : Type 0 where
 abbrev pub Says : Row → Type 0
 Says (root x r) = sqrt x ≡ r
 Says (projected c seen point r j) = pixel_projection c seen point ≡ Ok (record { residual = r; jacobian = j })
-Says (not_projected c seen point) = pixel_projection c seen point ≡ Err LoneProjection
+Says (not_projected c seen point) = pixel_projection c seen point ≡ Err NotProjectable
 Says (accepted c seen point) = is_ok (pixel_projection c seen point) ≡ true
 Says (refused m damping) = factor_with_rcond m damping ≡ Err NotFactored
 Says (factors m damping) = is_ok (factor_with_rcond m damping) ≡ true

@@ -26,7 +26,7 @@ fn last(rt: &impl Print, name: &str, c: u64) -> io::Result<()> {
 }
 
 fn diagonal(rt: &impl Print, name: &str, a: f64, b: f64, c: f64, damping: f64) -> io::Result<()> {
-    match PointBlockFactor::new([a, 0.0, 0.0, 0.0, b, 0.0, 0.0, 0.0, c], damping) {
+    match PointBlockFactor::factor_with_rcond([a, 0.0, 0.0, 0.0, b, 0.0, 0.0, 0.0, c], damping) {
         Ok(lone) => {
             let rcond = numerics::to_bits(lone.rcond);
             let is_weak = damping == 0.0 && point_block::is_weak(lone.rcond);

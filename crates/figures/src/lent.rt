@@ -7,7 +7,7 @@ ghost use Rattle.std.specs.Result.{result_err};
 ghost use Rattle.schur.specs.ReducedAdd as ReducedAdd;
 
 use linearization::LocalLinearization;
-use linearization::views::{Correspondence, Pose, Rig};
+use linearization::views::{Correspondence, RelativePose, Rig};
 use projection::PinholeCamera;
 use refusal::Refusal;
 use schur::reduced_system::ReducedSystem;
@@ -53,17 +53,17 @@ fn block(point: [f64; 3]) -> Result<LocalLinearization, Refusal> {
         cy: 240.0,
         skew: 0.5,
     };
-    let pose = Pose {
+    let pose = RelativePose {
         rotation: [0.6, -0.8, 0.0, 0.8, 0.6, 0.0, 0.0, 0.0, 1.0],
         translation: [0.0, 0.0, 1.0],
-        basis: [1.0, 0.0, 0.0, 0.0, 1.0, 0.0],
+        translation_basis: [1.0, 0.0, 0.0, 0.0, 1.0, 0.0],
         baseline: 0.25,
     };
     let correspondence = Correspondence {
         point,
         view1: [320.0 + 800.0 * x / z, 240.5 + 600.0 * y / z],
         view2: [320.0 + 500.0 * x / z, 240.0 + 500.0 * y / z],
-        inverse_deviation: 2.0,
+        inverse_standard_deviation: 2.0,
     };
     let rig = Rig {
         camera1: camera,

@@ -1,6 +1,6 @@
 // The figures of the projection.
 use program_io::show;
-use projection::{PinholeCamera, Projected};
+use projection::{PinholeCamera, Projection};
 use refusal::Refusal;
 use std::io;
 
@@ -60,7 +60,7 @@ fn plain(rt: &impl Print, name: &str, point: [f64; 3]) -> io::Result<()> {
 fn show_projected(
     rt: &impl Print,
     name: &str,
-    projected: Result<Projected, Refusal>,
+    projected: Result<Projection, Refusal>,
 ) -> io::Result<()> {
     match projected {
         Ok(p) => {

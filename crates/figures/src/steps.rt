@@ -3,7 +3,7 @@
 // each other met at once, where the earlier one is given.
 ghost use Rattle.std.specs.Prelude.{◌≤◌};
 
-use linearization::views::Pose;
+use linearization::views::RelativePose;
 use optimizer::{StepResult, pose_step};
 use problem::correspondences::{Problem, Rig};
 use program_io::show;
@@ -19,7 +19,7 @@ struct Sample {
     seen: f64,
     deviation: f64,
     focal: f64,
-    basis: f64,
+    translation_basis: f64,
     baseline: f64,
     damping: f64,
 }
@@ -57,7 +57,7 @@ fn values(rt: &impl Print) -> io::Result<()> {
     stepped(rt, "step, rows 3 and 4", p, 5, 10)?;
     p.damping = 1.0;
     stepped(rt, "step, inverse deviation 0 at index 2", p, 5, 10)?;
-    p.baseline = numerics::EPSILON64;
+    p.baseline = numerics::RELATIVE_TOLERANCE;
     stepped(rt, "step, rows 4 and 5", p, 5, 10)?;
     p.deviation = 1.0;
     stepped(rt, "step, baseline 2^-46", p, 5, 10)?;
@@ -88,7 +88,7 @@ fn equations(rt: &impl Print) -> io::Result<()> {
     let mut p = sound();
     p.focal = 0.0;
     stepped(rt, "step, blocks of zeros", p, 5, 10)?;
-    p.basis = 0.0;
+    p.translation_basis = 0.0;
     p.damping = 0.0;
     stepped(rt, "step, rows 10 and 11", p, 5, 10)?;
     p.focal = 1.0;
@@ -102,7 +102,7 @@ fn sound() -> Sample {
         seen: 1.0,
         deviation: 1.0,
         focal: 1.0,
-        basis: 1.0,
+        translation_basis: 1.0,
         baseline: 1.0,
         damping: 1.0,
     }
@@ -116,10 +116,10 @@ fn rig(p: Sample) -> Rig {
         cy: 0.0,
         skew: 0.0,
     };
-    let pose = Pose {
+    let pose = RelativePose {
         rotation: [1.0, 0.0, 0.0, 0.0, 1.0, 0.0, 0.0, 0.0, 1.0],
         translation: [1.0, 0.0, 0.0],
-        basis: [0.0, p.basis, 0.0, 0.0, 0.0, p.basis],
+        translation_basis: [0.0, p.translation_basis, 0.0, 0.0, 0.0, p.translation_basis],
         baseline: p.baseline,
     };
     Rig {
@@ -138,13 +138,13 @@ fn stepped(rt: &impl Print, name: &str, p: Sample, n: usize, in_view1: usize) ->
     ];
     let view1 = [0.0, 0.0, 1.0, 0.0, -1.0, 0.0, 0.0, 1.0, 0.0, -1.0];
     let view2 = [1.0, 0.0, 2.0, 0.0, 0.0, 0.0, p.seen, 1.0, 1.0, -1.0];
-    let deviations = [1.0, 1.0, p.deviation, 1.0, 1.0];
+    let inverse_standard_deviations = [1.0, 1.0, p.deviation, 1.0, 1.0];
     let mut room = [0.0; 15];
     let problem = Problem {
         points: &points[0..3 * n],
         view1: &view1[0..in_view1],
         view2: &view2[0..2 * n],
-        inverse_deviations: &deviations[0..n],
+        inverse_standard_deviations: &inverse_standard_deviations[0..n],
         rig: rig(p),
         damping: p.damping,
     };
@@ -161,7 +161,7 @@ fn many(rt: &impl Print, name: &str, in_view1: usize, damping: f64) -> io::Resul
         points: &zeros,
         view1: &zeros[0..in_view1],
         view2: &zeros[0..131072],
-        inverse_deviations: &zeros[0..65536],
+        inverse_standard_deviations: &zeros[0..65536],
         rig: rig(sound()),
         damping,
     };

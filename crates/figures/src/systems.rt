@@ -1,6 +1,6 @@
 // The figures of the block maker and of the system: document 01's sample, and its rows.
 use linearization::LocalLinearization;
-use linearization::views::{Correspondence, Pose, Rig};
+use linearization::views::{Correspondence, RelativePose, Rig};
 use point_block::point_damping::ValidDamping;
 use problem::letters;
 use program_io::show;
@@ -61,7 +61,7 @@ fn taken(
     block: LocalLinearization,
 ) -> io::Result<ReducedSystem> {
     if let Ok(damping) = ValidDamping::new(0.0) {
-        let letter = char::from(letters::letter(block, damping));
+        let letter = char::from(letters::letter_of(block, damping));
         print!(rt; " {letter}")?;
     }
     let added = schur::add(system, block, 0.0);
@@ -86,17 +86,17 @@ fn seen(x: f64, y: f64, off: f64) -> Result<LocalLinearization, Refusal> {
         cy: 0.0,
         skew: 0.0,
     };
-    let pose = Pose {
+    let pose = RelativePose {
         rotation: [1.0, 0.0, 0.0, 0.0, 1.0, 0.0, 0.0, 0.0, 1.0],
         translation: [0.0, 0.0, 1.0],
-        basis: [1.0, 0.0, 0.0, 0.0, 1.0, 0.0],
+        translation_basis: [1.0, 0.0, 0.0, 0.0, 1.0, 0.0],
         baseline: 1.0,
     };
     let correspondence = Correspondence {
         point: [x, y, 1.0],
         view1: [x, y + off],
         view2: [0.5 * x, 0.5 * y],
-        inverse_deviation: 1.0,
+        inverse_standard_deviation: 1.0,
     };
     let rig = Rig {
         camera1: camera,

@@ -18,14 +18,14 @@ use Rattle.std.specs.Result.{result_and}
 use Rattle.refusal.specs.FirstRefusal.{refuse_unless, first_refusal}
 use Rattle.refusal.specs.declared.View.TheVariants.{First, Second}
 use Rattle.refusal.specs.declared.Refusal.{Refusal}
-use Rattle.refusal.specs.declared.Refusal.TheVariants.{InverseDeviation, Projection}
+use Rattle.refusal.specs.declared.Refusal.TheVariants.{InverseStandardDeviation, PointNotProjectable}
 use Rattle.projection.specs.CameraFrame.{rotate}
 use Rattle.projection.specs.PixelProjection.{residual_and_jacobian, all_finite, pixel_projection}
-use Rattle.projection.specs.declared.Projected.{Projected}
+use Rattle.projection.specs.declared.Projection.{Projection}
 use Rattle.projection.specs.declared.PinholeCamera.{PinholeCamera}
 use Rattle.projection.proofs.Laws.{projected_is, projection_finite}
 use Rattle.linearization.specs.declared.linearize.LocalLinearization.{LocalLinearization}
-use Rattle.linearization.specs.declared.views.Pose.{Pose}
+use Rattle.linearization.specs.declared.views.RelativePose.{RelativePose}
 use Rattle.linearization.specs.declared.views.Rig.{Rig}
 use Rattle.linearization.specs.declared.views.Correspondence.{Correspondence}
 use Rattle.linearization.specs.Loss.{norm, loss_cost}
@@ -49,7 +49,7 @@ first_two true true c d e f g h t = (tt, tt)
 first_two true false c d e f g h t = absurd t
 first_two false b c d e f g h t = absurd t
 
-norm_nonneg : (p : Projected) → T (all_finite p) → T (is_nonnegative (norm p.residual))
+norm_nonneg : (p : Projection) → T (all_finite p) → T (is_nonnegative (norm p.residual))
 unfolding all_finite
 norm_nonneg p h =
     let k = first_two (is_finite (p.residual ! 0)) (is_finite (p.residual ! 1)) _ _ _ _ _ _ h in
@@ -61,7 +61,7 @@ cost_nonneg m w n h = nonneg_half_square (m ⊗ w) (nonneg_mul_weight binary64 m
 sum_nonneg : (x y : Float) → T (is_nonnegative x) → T (is_nonnegative y) → T (is_nonnegative (zero ⊕ x ⊕ y))
 sum_nonneg x y p q = nonneg_add binary64 (zero ⊕ x) y (nonneg_add binary64 zero x (nonneg_zero binary64) p) q
 
-block_costs : (first second : Projected) (rotated : List Float) (pose : Pose) (w : Float) → T (is_valid_inverse_standard_deviation w) → T (all_finite first) → T (all_finite second)
+block_costs : (first second : Projection) (rotated : List Float) (pose : RelativePose) (w : Float) → T (is_valid_inverse_standard_deviation w) → T (all_finite first) → T (all_finite second)
     → Costs (block (weighted_views first second rotated pose w) w)
 unfolding weighted_views block sums
 block_costs first second rotated pose w h f g =
@@ -78,20 +78,20 @@ unfolding zero_linearization
 no_block_costs = (nonneg_zero binary64, nonneg_zero binary64)
 
 -- what is projected is finite
-projected_finite : (camera : PinholeCamera) (observation point : List Float) (p : Projected) → pixel_projection camera observation point ≡ Ok p → T (all_finite (residual_and_jacobian camera observation point))
+projected_finite : (camera : PinholeCamera) (observation point : List Float) (p : Projection) → pixel_projection camera observation point ≡ Ok p → T (all_finite (residual_and_jacobian camera observation point))
 projected_finite camera observation point p e =
-    subst (λ (q : Projected). T (all_finite q)) (projected_is camera observation point p e) (projection_finite camera observation point p e)
+    subst (λ (q : Projection). T (all_finite q)) (projected_is camera observation point p e) (projection_finite camera observation point p e)
 
 pub made_costs : (rig : Rig) (correspondence : Correspondence) → Costs (block_or_zeros (linearize_point rig correspondence))
 unfolding linearize_point check_views block_of views_of
 made_costs rig correspondence = by (is_valid_inverse_standard_deviation w) (pixel_projection rig.camera1 correspondence.view1 correspondence.point) (pixel_projection rig.camera2 correspondence.view2 (point_in_camera2 rig correspondence)) refl refl refl
   where
     w : Float
-    w = correspondence.inverse_deviation
+    w = correspondence.inverse_standard_deviation
 
-    by : (g : Bool) (a b : Result Projected Refusal) → is_valid_inverse_standard_deviation w ≡ g → pixel_projection rig.camera1 correspondence.view1 correspondence.point ≡ a
+    by : (g : Bool) (a b : Result Projection Refusal) → is_valid_inverse_standard_deviation w ≡ g → pixel_projection rig.camera1 correspondence.view1 correspondence.point ≡ a
         → pixel_projection rig.camera2 correspondence.view2 (point_in_camera2 rig correspondence) ≡ b
-        → Costs (block_or_zeros (result_and (first_refusal (refuse_unless g (InverseDeviation 0) ∷ refuse_unless (is_ok a) (Projection First 0) ∷ refuse_unless (is_ok b) (Projection Second 0) ∷ [])) (Ok (block_of rig correspondence))))
+        → Costs (block_or_zeros (result_and (first_refusal (refuse_unless g (InverseStandardDeviation 0) ∷ refuse_unless (is_ok a) (PointNotProjectable First 0) ∷ refuse_unless (is_ok b) (PointNotProjectable Second 0) ∷ [])) (Ok (block_of rig correspondence))))
     by true (Ok p) (Ok q) e f g =
         block_costs _ _ (rotate rig.pose.rotation correspondence.point) rig.pose w (rw e tt)
         (projected_finite rig.camera1 correspondence.view1 correspondence.point p f)

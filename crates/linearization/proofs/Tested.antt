@@ -6,7 +6,7 @@ use Rattle.std.specs.Prelude.{is_ok}
 use Rattle.refusal.specs.FirstRefusal.{refuse_unless, first_refusal}
 use Rattle.refusal.specs.declared.Refusal.{Refusal}
 use Rattle.refusal.specs.declared.View.TheVariants.{First, Second}
-use Rattle.refusal.specs.declared.Refusal.TheVariants.{InverseDeviation, Projection}
+use Rattle.refusal.specs.declared.Refusal.TheVariants.{InverseStandardDeviation, PointNotProjectable}
 use Rattle.projection.specs.PixelProjection.{pixel_projection}
 use Rattle.linearization.specs.declared.views.Rig.{Rig}
 use Rattle.linearization.specs.declared.views.Correspondence.{Correspondence}
@@ -20,6 +20,6 @@ all_pass true false c x y z = refl
 all_pass false b c x y z = refl
 
 pub accepted_is : (rig : Rig) (c : Correspondence)
-    → (is_valid_inverse_standard_deviation c.inverse_deviation && is_ok (pixel_projection rig.camera1 c.view1 c.point) && is_ok (pixel_projection rig.camera2 c.view2 (point_in_camera2 rig c))) ≡ is_ok (check_views rig c)
+    → (is_valid_inverse_standard_deviation c.inverse_standard_deviation && is_ok (pixel_projection rig.camera1 c.view1 c.point) && is_ok (pixel_projection rig.camera2 c.view2 (point_in_camera2 rig c))) ≡ is_ok (check_views rig c)
 unfolding check_views
-accepted_is rig c = all_pass _ _ _ (InverseDeviation 0) (Projection First 0) (Projection Second 0)
+accepted_is rig c = all_pass _ _ _ (InverseStandardDeviation 0) (PointNotProjectable First 0) (PointNotProjectable Second 0)

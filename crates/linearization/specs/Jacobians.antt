@@ -6,22 +6,22 @@ use Rattle.numerics.specs.Vectors.{◌!◌, sum, tabulate}
 
 -- `pose_motion_jacobian`: three rows of five; the basis is two vectors
 abbrev pub pose_motion_jacobian : List Float → List Float → Float → List Float
-pose_motion_jacobian rotated basis baseline =
+pose_motion_jacobian rotated translation_basis baseline =
     zero
     ∷ rotated ! 2
     ∷ neg (rotated ! 1)
-    ∷ baseline ⊗ basis ! 0
-    ∷ baseline ⊗ basis ! 3
+    ∷ baseline ⊗ translation_basis ! 0
+    ∷ baseline ⊗ translation_basis ! 3
     ∷ neg (rotated ! 2)
     ∷ zero
     ∷ rotated ! 0
-    ∷ baseline ⊗ basis ! 1
-    ∷ baseline ⊗ basis ! 4
+    ∷ baseline ⊗ translation_basis ! 1
+    ∷ baseline ⊗ translation_basis ! 4
     ∷ rotated ! 1
     ∷ neg (rotated ! 0)
     ∷ zero
-    ∷ baseline ⊗ basis ! 2
-    ∷ baseline ⊗ basis ! 5
+    ∷ baseline ⊗ translation_basis ! 2
+    ∷ baseline ⊗ translation_basis ! 5
     ∷ []
 
 -- an entry of a product of matrices with an inner dimension of 3, the right one of n columns

@@ -36,7 +36,7 @@ block_or_zeros r = (outcome zero_linearization r).values
 
 -- the pose's ten derivatives in view 1
 abbrev pub pose_rows : View1 → List Float
-pose_rows a = tabulate 10 (λ i. a.pose)
+pose_rows a = tabulate 10 (λ i. a.pose_zero)
 
 -- what the step of a point needs of its block
 unfoldable pub terms : View1 → View2 → PointTerms
@@ -63,14 +63,14 @@ sums v cost squared =
 
 -- cost and squared residual are added from +0
 unfoldable pub block : LinearizedViews → Float → LocalLinearization
-block v inverse_deviation =
+block v inverse_standard_deviation =
     let m = norm v.residual1 in
     let n = norm v.residual2 in
-    sums v (zero ⊕ loss_cost (m ⊗ inverse_deviation) ⊕ loss_cost (n ⊗ inverse_deviation)) (zero ⊕ m ⊗ m ⊕ n ⊗ n)
+    sums v (zero ⊕ loss_cost (m ⊗ inverse_standard_deviation) ⊕ loss_cost (n ⊗ inverse_standard_deviation)) (zero ⊕ m ⊗ m ⊕ n ⊗ n)
 
 -- the block of a correspondence by the formulas alone, whether its views are tested or not
 unfoldable pub block_of : Rig → Correspondence → LocalLinearization
-block_of rig correspondence = block (views_of rig correspondence) correspondence.inverse_deviation
+block_of rig correspondence = block (views_of rig correspondence) correspondence.inverse_standard_deviation
 
 -- row 4, then row 9 with view 1 or 2, then the block
 unfoldable pub linearize_point : Rig → Correspondence → Result LocalLinearization Refusal

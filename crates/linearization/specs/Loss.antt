@@ -16,4 +16,4 @@ loss_cost residual = half ⊗ residual ⊗ residual
 
 -- what a view's rows are weighted by: the inverse deviation times the loss's root weight
 abbrev pub row_weight : List Float → Float → Float
-row_weight residual inverse_deviation = inverse_deviation ⊗ sqrt_weight (norm residual ⊗ inverse_deviation)
+row_weight residual inverse_standard_deviation = inverse_standard_deviation ⊗ sqrt_weight (norm residual ⊗ inverse_standard_deviation)

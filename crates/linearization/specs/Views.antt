@@ -7,11 +7,11 @@ use Rattle.numerics.specs.Classify.{is_finite}
 use Rattle.numerics.specs.Vectors.{◌!◌, tabulate}
 use Rattle.refusal.specs.FirstRefusal.{CheckResult, refuse_unless, first_refusal}
 use Rattle.refusal.specs.declared.View.TheVariants.{First, Second}
-use Rattle.refusal.specs.declared.Refusal.TheVariants.{InverseDeviation, Projection}
+use Rattle.refusal.specs.declared.Refusal.TheVariants.{InverseStandardDeviation, PointNotProjectable}
 use Rattle.projection.specs.CameraFrame.{rotate, camera_point}
 use Rattle.projection.specs.PixelProjection.{residual_and_jacobian, pixel_projection}
-use Rattle.projection.specs.declared.Projected.{Projected}
-use Rattle.linearization.specs.declared.views.Pose.{Pose}
+use Rattle.projection.specs.declared.Projection.{Projection}
+use Rattle.linearization.specs.declared.views.RelativePose.{RelativePose}
 use Rattle.linearization.specs.declared.views.Rig.{Rig}
 use Rattle.linearization.specs.declared.views.Correspondence.{Correspondence}
 use Rattle.linearization.specs.declared.views.View1.{View1}
@@ -31,33 +31,33 @@ weighted_entries n weight l = tabulate n (λ i. weight ⊗ l ! i)
 
 -- view 1: the pose's derivatives are zeros, each times the weight, and the point's are scaled by
 -- the baseline
-unfoldable pub first_view : List Float → List Float → Float → Float → View1
-first_view residual jacobian baseline weight = record {
+unfoldable pub weighted_view1_of : List Float → List Float → Float → Float → View1
+weighted_view1_of residual jacobian baseline weight = record {
   residual = weighted_entries 2 weight residual;
-  pose = weight ⊗ zero;
+  pose_zero = weight ⊗ zero;
   point = tabulate 6 (λ i. weight ⊗ (jacobian ! i ⊗ baseline));
 }
 
-unfoldable pub second_view : List Float → List Float → List Float → Float → View2
-second_view residual pose point weight = record {
+unfoldable pub weighted_view2_of : List Float → List Float → List Float → Float → View2
+weighted_view2_of residual pose point weight = record {
   residual = weighted_entries 2 weight residual;
   pose = weighted_entries 10 weight pose;
   point = weighted_entries 6 weight point;
 }
 
-unfoldable pub weighted_view1 : Projected → Pose → Float → View1
-weighted_view1 first pose weight = first_view first.residual first.jacobian pose.baseline weight
+unfoldable pub weighted_view1 : Projection → RelativePose → Float → View1
+weighted_view1 first pose weight = weighted_view1_of first.residual first.jacobian pose.baseline weight
 
-unfoldable pub weighted_view2 : Projected → List Float → Pose → Float → View2
+unfoldable pub weighted_view2 : Projection → List Float → RelativePose → Float → View2
 weighted_view2 second rotated pose weight =
-    second_view second.residual (pose_jacobian second.jacobian (pose_motion_jacobian rotated pose.basis pose.baseline))
+    weighted_view2_of second.residual (pose_jacobian second.jacobian (pose_motion_jacobian rotated pose.translation_basis pose.baseline))
     (point_jacobian second.jacobian pose.rotation pose.baseline)
     weight
 
-unfoldable pub weighted_views : Projected → Projected → List Float → Pose → Float → LinearizedViews
-weighted_views first second rotated pose inverse_deviation = record {
-  first = weighted_view1 first pose (row_weight first.residual inverse_deviation);
-  second = weighted_view2 second rotated pose (row_weight second.residual inverse_deviation);
+unfoldable pub weighted_views : Projection → Projection → List Float → RelativePose → Float → LinearizedViews
+weighted_views first second rotated pose inverse_standard_deviation = record {
+  first = weighted_view1 first pose (row_weight first.residual inverse_standard_deviation);
+  second = weighted_view2 second rotated pose (row_weight second.residual inverse_standard_deviation);
   residual1 = first.residual;
   residual2 = second.residual;
 }
@@ -73,15 +73,15 @@ views_of rig correspondence =
     (residual_and_jacobian rig.camera2 correspondence.view2 (point_in_camera2 rig correspondence))
     (rotate rig.pose.rotation correspondence.point)
     rig.pose
-    correspondence.inverse_deviation
+    correspondence.inverse_standard_deviation
 
 -- row 4, then row 9 with view 1, then with view 2
 unfoldable pub check_views : Rig → Correspondence → CheckResult
 check_views rig correspondence =
     first_refusal (
-    refuse_unless (is_valid_inverse_standard_deviation correspondence.inverse_deviation) (InverseDeviation 0)
-    ∷ refuse_unless (is_ok (pixel_projection rig.camera1 correspondence.view1 correspondence.point)) (Projection First 0)
-    ∷ refuse_unless (is_ok (pixel_projection rig.camera2 correspondence.view2 (point_in_camera2 rig correspondence))) (Projection Second 0)
+    refuse_unless (is_valid_inverse_standard_deviation correspondence.inverse_standard_deviation) (InverseStandardDeviation 0)
+    ∷ refuse_unless (is_ok (pixel_projection rig.camera1 correspondence.view1 correspondence.point)) (PointNotProjectable First 0)
+    ∷ refuse_unless (is_ok (pixel_projection rig.camera2 correspondence.view2 (point_in_camera2 rig correspondence))) (PointNotProjectable Second 0)
     ∷ [])
 
 -- the formulas' views, and whether they are refused

@@ -11,25 +11,29 @@ use std::array;
 
 // How the turned point moves with the pose: three rows of five
 #[inline(always)]
-pub(crate) fn pose_motion_jacobian(rotated: [f64; 3], basis: [f64; 6], baseline: f64) -> [f64; 15]
-    ensures { result ≡ Jacobians.pose_motion_jacobian rotated basis baseline }
+pub(crate) fn pose_motion_jacobian(
+    rotated: [f64; 3],
+    translation_basis: [f64; 6],
+    baseline: f64,
+) -> [f64; 15]
+    ensures { result ≡ Jacobians.pose_motion_jacobian rotated translation_basis baseline }
 {
     [
         0.0,
         rotated[2],
         -rotated[1],
-        baseline * basis[0],
-        baseline * basis[3],
+        baseline * translation_basis[0],
+        baseline * translation_basis[3],
         -rotated[2],
         0.0,
         rotated[0],
-        baseline * basis[1],
-        baseline * basis[4],
+        baseline * translation_basis[1],
+        baseline * translation_basis[4],
         rotated[1],
         -rotated[0],
         0.0,
-        baseline * basis[2],
-        baseline * basis[5],
+        baseline * translation_basis[2],
+        baseline * translation_basis[5],
     ]
 }
 

@@ -56,7 +56,7 @@ pub fn tested_block(rig: &Rig, correspondence: Correspondence) -> TestedBlock
 {
     let TestedViews { views, accepted } = views::tested_views(rig, correspondence);
     TestedBlock {
-        block: block(views, correspondence.inverse_deviation),
+        block: block(views, correspondence.inverse_standard_deviation),
         accepted,
     }
 }
@@ -73,14 +73,14 @@ pub fn block_of(rig: &Rig, correspondence: Correspondence) -> LocalLinearization
 // The block of two views, with what each adds to the cost and to the squared residual
 #[tactic(auto, unfolding(crate::specs::Linearize::block))]
 #[inline(always)]
-fn block(views: LinearizedViews, inverse_deviation: f64) -> LocalLinearization
-    ensures { result ≡ Linearize.block views inverse_deviation }
+fn block(views: LinearizedViews, inverse_standard_deviation: f64) -> LocalLinearization
+    ensures { result ≡ Linearize.block views inverse_standard_deviation }
 {
     let norm1 = loss::norm(views.residual1);
     let norm2 = loss::norm(views.residual2);
     let cost = 0.0
-        + loss::loss_cost(norm1 * inverse_deviation)
-        + loss::loss_cost(norm2 * inverse_deviation);
+        + loss::loss_cost(norm1 * inverse_standard_deviation)
+        + loss::loss_cost(norm2 * inverse_standard_deviation);
     sums(views, cost, 0.0 + norm1 * norm1 + norm2 * norm2)
 }
 
@@ -90,7 +90,7 @@ fn sums(views: LinearizedViews, cost: f64, squared_residual: f64) -> LocalLinear
     ensures { result ≡ Linearize.sums views cost squared_residual }
 {
     let LinearizedViews { first, second, .. } = views;
-    let pose1 = [first.pose; 10];
+    let pose1 = [first.pose_zero; 10];
     let pose2 = second.pose;
     let PointTerms {
         cross_hessian,

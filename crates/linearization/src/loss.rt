@@ -19,10 +19,10 @@ pub(crate) fn norm(residual: [f64; 2]) -> f64
 // The weight of a view's rows: the inverse deviation times the root of the loss's weight. Plain
 // squares weigh every residual alike, by 1, so that its length is not worked out.
 #[inline(always)]
-pub(crate) fn row_weight(residual: [f64; 2], inverse_deviation: f64) -> f64
-    ensures { result ≡ Loss.row_weight residual inverse_deviation }
+pub(crate) fn row_weight(residual: [f64; 2], inverse_standard_deviation: f64) -> f64
+    ensures { result ≡ Loss.row_weight residual inverse_standard_deviation }
 {
-    inverse_deviation * 1.0
+    inverse_standard_deviation * 1.0
 }
 
 // The loss's cost of a weighted residual length

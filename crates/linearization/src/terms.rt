@@ -55,7 +55,7 @@ impl From<LocalLinearization> for PointTerms {
 pub(crate) fn terms(first: View1, second: View2) -> PointTerms
     ensures { result ≡ Linearize.terms first second }
 {
-    let pose1 = [first.pose; 10];
+    let pose1 = [first.pose_zero; 10];
     PointTerms {
         cross_hessian: accumulate::cross_hessian(pose1, first.point, second.pose, second.point),
         point_hessian: accumulate::point_hessian(first.point, second.point),

@@ -1,7 +1,7 @@
 // SPDX-FileCopyrightText: 2026 Pierre Moulon and OpenMVG Rust contributors
 // SPDX-License-Identifier: MIT OR Apache-2.0
 
-// Both views of a point, linearized and weighted: residuals, with their derivatives by the five
+// Both views of a point, residual_and_jacobian and weighted: residuals, with their derivatives by the five
 // parameters of the pose and by the three coordinates of the point. The first half of
 // `linearize_point` of kernel/two_view/schur.rs.
 
@@ -11,19 +11,19 @@ ghost use Rattle.numerics.specs.Vectors.{◌!◌};
 ghost use Rattle.linearization.specs.Views as Views;
 
 use crate::{jacobians, loss};
-use projection::{PinholeCamera, Projected};
+use projection::{PinholeCamera, Projection};
 use refusal::{Refusal, View};
 use std::array;
 
 /// How the second camera sits: the rotation by rows, the translation, the baseline, and two vectors
 /// that span the translation's tangent plane
 #[derive(Clone, Copy)]
-pub struct Pose {
+pub struct RelativePose {
     pub rotation: [f64; 9],
     pub translation: [f64; 3],
     // here, between arrays: a longer run of them would be copied by a call of the C library
     pub baseline: f64,
-    pub basis: [f64; 6],
+    pub translation_basis: [f64; 6],
 }
 
 /// The two cameras, and how the second one sits
@@ -31,7 +31,7 @@ pub struct Pose {
 pub struct Rig {
     pub camera1: PinholeCamera,
     pub camera2: PinholeCamera,
-    pub pose: Pose,
+    pub pose: RelativePose,
 }
 
 /// A point, seen by both cameras, with its inverse standard deviation
@@ -40,14 +40,14 @@ pub struct Correspondence {
     pub point: [f64; 3],
     pub view1: [f64; 2],
     pub view2: [f64; 2],
-    pub inverse_deviation: f64,
+    pub inverse_standard_deviation: f64,
 }
 
 /// View 1, whose ten derivatives by the pose are all the same number
 #[derive(Clone, Copy)]
 pub struct View1 {
     pub residual: [f64; 2],
-    pub pose: f64,
+    pub pose_zero: f64,
     pub point: [f64; 6],
 }
 
@@ -85,22 +85,24 @@ pub(crate) fn tested_views(rig: &Rig, correspondence: Correspondence) -> TestedV
         point,
         view1,
         view2,
-        inverse_deviation,
+        inverse_standard_deviation,
     } = correspondence;
     let rotated = projection::rotate(rig.pose.rotation, point);
     let moved = projection::camera_point(rotated, rig.pose.translation);
     let first = projection::tested_projection(&rig.camera1, view1, point);
     let second = projection::tested_projection(&rig.camera2, view2, moved);
     let views = weighted_views(
-        first.projected,
-        second.projected,
+        first.projection,
+        second.projection,
         rotated,
         &rig.pose,
-        inverse_deviation,
+        inverse_standard_deviation,
     );
     TestedViews {
         views,
-        accepted: good_deviation(inverse_deviation) & first.projectable & second.projectable,
+        accepted: is_valid_inverse_standard_deviation(inverse_standard_deviation)
+            & first.projectable
+            & second.projectable,
     }
 }
 
@@ -115,13 +117,13 @@ pub(crate) fn check_views(rig: &Rig, correspondence: Correspondence) -> Result<(
         point,
         view1,
         view2,
-        inverse_deviation,
+        inverse_standard_deviation,
     } = correspondence;
-    if !good_deviation(inverse_deviation) {
-        return Err(Refusal::InverseDeviation { index: 0 });
+    if !is_valid_inverse_standard_deviation(inverse_standard_deviation) {
+        return Err(Refusal::InverseStandardDeviation { index: 0 });
     }
     if projection::pixel_projection(&rig.camera1, view1, point).is_err() {
-        return Err(Refusal::Projection {
+        return Err(Refusal::PointNotProjectable {
             view: View::First,
             index: 0,
         });
@@ -129,7 +131,7 @@ pub(crate) fn check_views(rig: &Rig, correspondence: Correspondence) -> Result<(
     let rotated = projection::rotate(rig.pose.rotation, point);
     let moved = projection::camera_point(rotated, rig.pose.translation);
     if projection::pixel_projection(&rig.camera2, view2, moved).is_err() {
-        return Err(Refusal::Projection {
+        return Err(Refusal::PointNotProjectable {
             view: View::Second,
             index: 0,
         });
@@ -140,7 +142,7 @@ pub(crate) fn check_views(rig: &Rig, correspondence: Correspondence) -> Result<(
 /// Row 4 lets an inverse deviation through that is finite and above 0.
 #[tactic(auto, unfolding(crate::specs::Views::is_valid_inverse_standard_deviation))]
 #[inline(always)]
-pub fn good_deviation(x: f64) -> bool
+pub fn is_valid_inverse_standard_deviation(x: f64) -> bool
     ensures { result ≡ Views.is_valid_inverse_standard_deviation x }
 {
     numerics::is_finite(x) & !(x <= 0.0)
@@ -150,21 +152,21 @@ pub fn good_deviation(x: f64) -> bool
 #[tactic(auto, unfolding(crate::specs::Views::weighted_views))]
 #[inline(always)]
 fn weighted_views(
-    first: Projected,
-    second: Projected,
+    first: Projection,
+    second: Projection,
     rotated: [f64; 3],
-    pose: &Pose,
-    inverse_deviation: f64,
+    pose: &RelativePose,
+    inverse_standard_deviation: f64,
 ) -> LinearizedViews
-    ensures { result ≡ Views.weighted_views first second rotated pose.now inverse_deviation }
+    ensures { result ≡ Views.weighted_views first second rotated pose.now inverse_standard_deviation }
 {
     let residual1 = first.residual;
     let residual2 = second.residual;
-    let weight1 = loss::row_weight(residual1, inverse_deviation);
-    let weight2 = loss::row_weight(residual2, inverse_deviation);
+    let weight1 = loss::row_weight(residual1, inverse_standard_deviation);
+    let weight2 = loss::row_weight(residual2, inverse_standard_deviation);
     LinearizedViews {
-        first: first_rows(first, pose, weight1),
-        second: second_rows(second, rotated, pose, weight2),
+        first: weighted_view1(first, pose, weight1),
+        second: weighted_view2(second, rotated, pose, weight2),
         residual1,
         residual2,
     }
@@ -172,52 +174,57 @@ fn weighted_views(
 
 #[tactic(auto, unfolding(crate::specs::Views::weighted_view1))]
 #[inline(always)]
-fn first_rows(first: Projected, pose: &Pose, weight: f64) -> View1
+fn weighted_view1(first: Projection, pose: &RelativePose, weight: f64) -> View1
     ensures { result ≡ Views.weighted_view1 first pose.now weight }
 {
-    first_view(first.residual, first.jacobian, pose.baseline, weight)
+    weighted_view1_of(first.residual, first.jacobian, pose.baseline, weight)
 }
 
 #[tactic(auto, unfolding(crate::specs::Views::weighted_view2))]
 #[inline(always)]
-fn second_rows(second: Projected, rotated: [f64; 3], pose: &Pose, weight: f64) -> View2
+fn weighted_view2(second: Projection, rotated: [f64; 3], pose: &RelativePose, weight: f64) -> View2
     ensures { result ≡ Views.weighted_view2 second rotated pose.now weight }
 {
-    let motion = jacobians::pose_motion_jacobian(rotated, pose.basis, pose.baseline);
+    let motion = jacobians::pose_motion_jacobian(rotated, pose.translation_basis, pose.baseline);
     let by_pose = jacobians::pose_jacobian(second.jacobian, motion);
     let by_point = jacobians::point_jacobian(second.jacobian, pose.rotation, pose.baseline);
-    second_view(second.residual, by_pose, by_point, weight)
+    weighted_view2_of(second.residual, by_pose, by_point, weight)
 }
 
 // View 1 sees the point where it is, so the pose moves nothing: weight × 0, which shows where the
 // weight times a residual is infinite.
-#[tactic(auto, unfolding(crate::specs::Views::first_view))]
+#[tactic(auto, unfolding(crate::specs::Views::weighted_view1_of))]
 #[inline(always)]
-fn first_view(residual: [f64; 2], j: [f64; 6], baseline: f64, weight: f64) -> View1
-    ensures { result ≡ Views.first_view residual j baseline weight }
+fn weighted_view1_of(residual: [f64; 2], j: [f64; 6], baseline: f64, weight: f64) -> View1
+    ensures { result ≡ Views.weighted_view1_of residual j baseline weight }
 {
     View1 {
-        residual: weigh(residual, weight),
-        pose: weight * 0.0,
+        residual: weighted_entries(residual, weight),
+        pose_zero: weight * 0.0,
         point: array::from_fn(|i| weight * (j[i] * baseline)),
     }
 }
 
-#[tactic(auto, unfolding(crate::specs::Views::second_view))]
+#[tactic(auto, unfolding(crate::specs::Views::weighted_view2_of))]
 #[inline(always)]
-fn second_view(residual: [f64; 2], by_pose: [f64; 10], by_point: [f64; 6], weight: f64) -> View2
-    ensures { result ≡ Views.second_view residual by_pose by_point weight }
+fn weighted_view2_of(
+    residual: [f64; 2],
+    by_pose: [f64; 10],
+    by_point: [f64; 6],
+    weight: f64,
+) -> View2
+    ensures { result ≡ Views.weighted_view2_of residual by_pose by_point weight }
 {
     View2 {
-        residual: weigh(residual, weight),
-        pose: weigh(by_pose, weight),
-        point: weigh(by_point, weight),
+        residual: weighted_entries(residual, weight),
+        pose: weighted_entries(by_pose, weight),
+        point: weighted_entries(by_point, weight),
     }
 }
 
 // Each number times the weight
 #[inline(always)]
-fn weigh<const N: usize>(numbers: [f64; N], weight: f64) -> [f64; N]
+fn weighted_entries<const N: usize>(numbers: [f64; N], weight: f64) -> [f64; N]
     ensures { result ≡ Views.weighted_entries N weight numbers.entry }
 {
     array::from_fn(

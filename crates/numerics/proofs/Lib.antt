@@ -3,7 +3,7 @@
 -- modules other crates cite.
 pub mod Values
 pub mod Specials
-mod Differences
+mod AbsLaws
 pub mod Order
 pub mod Monotone
 pub mod Absolute

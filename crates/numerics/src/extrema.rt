@@ -31,15 +31,15 @@ pub fn min(x: f64, y: f64) -> f64
 
 /// `max` by one comparison, for a `low` that is a number with the sign clear: a NaN in x is passed
 /// over, and of unlike zeros it is +0.
-pub fn larger(low: f64, x: f64) -> f64
+pub fn max_nonnegative(low: f64, x: f64) -> f64
     ensures { Extrema.MaxNonnegative low x result }
 {
     if low < x { x } else { low }
 }
 
 /// The largest of some numbers and +0. A NaN is passed over.
-pub fn largest<const N: usize>(xs: [f64; N]) -> f64
+pub fn fold_max<const N: usize>(xs: [f64; N]) -> f64
     ensures { result ≡ Extrema.fold_max xs.entry }
 {
-    xs.iter().fold(0.0, |low, x| larger(low, *x))
+    xs.iter().fold(0.0, |low, x| max_nonnegative(low, *x))
 }

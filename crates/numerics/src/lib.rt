@@ -10,16 +10,16 @@ pub mod extrema;
 pub mod vectors;
 
 /// 64ε, where ε is `f64::EPSILON`: the tolerance relative to a largest entry.
-pub const EPSILON64: f64 = 1.4210854715202004e-14;
+pub const RELATIVE_TOLERANCE: f64 = 1.4210854715202004e-14;
 
 /// 192ε: at or below it, a reciprocal condition number makes a block weak.
-pub const EPSILON192: f64 = 4.263256414560601e-14;
+pub const POINT_BLOCK_RCOND_THRESHOLD: f64 = 4.263256414560601e-14;
 
 /// `f64::MIN_POSITIVE`, the smallest normal number.
 pub const MIN_POSITIVE: f64 = f64::MIN_POSITIVE;
 
 mod bits;
-mod parts;
+mod classify;
 
 pub use bits::{from_bits, to_bits};
-pub use parts::{abs, is_finite, positive_finite, recip};
+pub use classify::{abs, is_finite, is_positive_finite, recip};

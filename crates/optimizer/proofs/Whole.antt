@@ -20,7 +20,7 @@ use Rattle.optimizer.specs.PoseStep.{negated_limited_step}
 use Rattle.optimizer.specs.PointSteps.{steps_to, sums_to}
 use Rattle.optimizer.specs.Results.{zero_step_result, step_result}
 use Rattle.optimizer.specs.Step.{result_with, step_after_checks, check_step, step, point_steps_after, StepOutcome}
-use Rattle.optimizer.specs.declared.point_steps.Sums.{Sums}
+use Rattle.optimizer.specs.declared.point_steps.StepSums.{StepSums}
 use Rattle.optimizer.specs.declared.step_result.StepResult.{StepResult}
 use Rattle.optimizer.proofs.PointStepsLaws.{none_refused}
 
@@ -115,7 +115,7 @@ module _ (p : Problem) (room : List Float) where
           unfolding step_after_checks
           not_solved e r k l = rw l (done (Err e) room (rw (sym made, valid, k) refl) refl)
 
-          pub solved : (x v : List Float) (sums : Sums) (after : List Float) (u : StepResult) → solve_positive_definite s.hessian s.gradient ≡ Ok x → v ≡ negated_limited_step x
+          pub solved : (x v : List Float) (sums : StepSums) (after : List Float) (u : StepResult) → solve_positive_definite s.hessian s.gradient ≡ Ok x → v ≡ negated_limited_step x
               → sums ≡ sums_to q v (count q)
               → after ≡ steps_to q v (count q)
               → u ≡ step_result s v q.damping (count q) sums.squared sums.damping_norm

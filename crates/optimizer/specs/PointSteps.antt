@@ -10,7 +10,7 @@ use Rattle.schur.specs.PointStep as Point
 use Rattle.schur.specs.declared.point_step.PointStep.{PointStep}
 use Rattle.optimizer.specs.Assembly.{block_at}
 use Rattle.optimizer.specs.PoseStep.{square}
-use Rattle.optimizer.specs.declared.point_steps.Sums.{Sums}
+use Rattle.optimizer.specs.declared.point_steps.StepSums.{StepSums}
 
 -- what the step of a point answers
 abbrev pub answer_at : Problem → List Float → ℕ → Result PointStep Refusal
@@ -28,7 +28,7 @@ steps_to p s (suc n) = steps_to p s n ++ (step_at p s n).step
 abbrev pub squared_norm : List Float → Float
 squared_norm x = sum (square (x ! 0) ∷ square (x ! 1) ∷ square (x ! 2) ∷ [])
 
-unfoldable pub sums_to : Problem → List Float → ℕ → Sums
+unfoldable pub sums_to : Problem → List Float → ℕ → StepSums
 sums_to p s zero = record { squared = zero·; damping_norm = zero· }
 sums_to p s (suc n) = record {
   squared = (sums_to p s n).squared ⊕ squared_norm (step_at p s n).step;

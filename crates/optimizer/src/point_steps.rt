@@ -17,14 +17,18 @@ use schur::point_step;
 
 // The squared lengths of the point steps and their damping norms, summed
 #[derive(Clone, Copy)]
-pub(crate) struct Sums {
+pub(crate) struct StepSums {
     pub squared: f64,
     pub damping_norm: f64,
 }
 
 // Writes each point's step into the room.
 #[tactic(auto, using(crate::proofs::Passes::room_none, crate::proofs::Passes::room_next, crate::proofs::Passes::sums_none, crate::proofs::Passes::squared_next, crate::proofs::Passes::norm_next))]
-pub(crate) fn write_steps(problem: &CheckedProblem, pose_step: [f64; 5], room: &mut [f64]) -> Sums
+pub(crate) fn write_steps(
+    problem: &CheckedProblem,
+    pose_step: [f64; 5],
+    room: &mut [f64],
+) -> StepSums
     requires valid { Reduced.is_valid (Assembly.reduced_system problem.now) ≡ true }
     requires room { length room.old ≡ 3 * Problems.count problem.now }
     ensures sums { result ≡ Steps.sums_to problem.now pose_step (Problems.count problem.now) }
@@ -45,7 +49,7 @@ pub(crate) fn write_steps(problem: &CheckedProblem, pose_step: [f64; 5], room: &
         squared = squared + squared_norm(moved.step);
         damping_norm = damping_norm + moved.damping_norm;
     }
-    Sums {
+    StepSums {
         squared,
         damping_norm,
     }

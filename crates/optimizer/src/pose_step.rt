@@ -20,12 +20,12 @@ pub fn limit_pose_step(x: [f64; 5]) -> [f64; 5]
 {
     let length = step_length(x);
     if MAX_LENGTH < length {
-        return scaled(x, MAX_LENGTH / length);
+        return scaled_step(x, MAX_LENGTH / length);
     }
     x
 }
 
-fn scaled(x: [f64; 5], by: f64) -> [f64; 5]
+fn scaled_step(x: [f64; 5], by: f64) -> [f64; 5]
     ensures { result ≡ PoseStep.scaled_step x by }
 {
     x.map(|v| v * by)
@@ -46,7 +46,7 @@ fn length<const N: usize>(v: [f64; N]) -> f64
 
 // The limited step of a solution
 #[tactic(auto, unfolding(crate::specs::PoseStep::negated_limited_step))]
-pub(crate) fn pose_step(x: [f64; 5]) -> [f64; 5]
+pub(crate) fn negated_limited_step(x: [f64; 5]) -> [f64; 5]
     ensures { result ≡ PoseStep.negated_limited_step x }
 {
     limit_pose_step(x.map(|v| -v))

@@ -7,7 +7,7 @@ ghost use Rattle.std.specs.Prelude.{◌≡◌};
 ghost use Rattle.problem.specs.Problem as Problems;
 ghost use Rattle.optimizer.specs.Results as Results;
 
-use crate::point_steps::Sums;
+use crate::point_steps::StepSums;
 use problem::checks::CheckedProblem;
 use schur::reduced_system::ReducedSystem;
 
@@ -32,7 +32,7 @@ impl StepResult {
         problem: &CheckedProblem,
         system: &ReducedSystem,
         pose_step: [f64; 5],
-        sums: Sums,
+        sums: StepSums,
     ) -> Self
         ensures { result ≡ Results.step_result system.now pose_step problem.now.damping
             (Problems.count problem.now) sums.squared sums.damping_norm }

@@ -32,7 +32,7 @@ pub fn step(problem: &Problem, room: &mut [f64]) -> Result<StepResult, Refusal>
         return Err(Refusal::NotFactored);
     }
     let x = solver::solve_positive_definite(system.hessian, system.gradient)?;
-    let pose_step = pose_step::pose_step(x);
+    let pose_step = pose_step::negated_limited_step(x);
     let sums = point_steps::write_steps(&checked, pose_step, room);
     Ok(StepResult::of(&checked, &system, pose_step, sums))
 }

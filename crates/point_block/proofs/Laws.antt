@@ -15,7 +15,7 @@ use Rattle.point_block.specs.Cholesky.{has_valid_pivots, factor_of, inverse_by, 
 use Rattle.point_block.specs.Damping.{is_valid_damping, largest_diagonal, damping_diagonal_of, damping_diagonal, with_added_diagonal, damped_matrix}
 use Rattle.point_block.specs.Factor.{factor_damped}
 use Rattle.point_block.specs.declared.PointBlockFactor.{PointBlockFactor}
-use Rattle.point_block.specs.declared.LoneFactor.{LoneFactor}
+use Rattle.point_block.specs.declared.ConditionedFactor.{ConditionedFactor}
 use Rattle.point_block.specs.Condition.{infinity_norm, inverse_matrix, reciprocal_condition_number}
 use Rattle.point_block.specs.FactorWithRcond.{factor, factor_with_rcond, inverse_at}
 
@@ -26,7 +26,7 @@ unfolding factor_with_rcond
 lone_factors m damping g = rw (is_true (is_valid_damping damping) g) (by (factor m damping))
   where
     by : (f : Result PointBlockFactor Refusal)
-        → is_ok {T = LoneFactor} {E = Refusal} (elim f [ Ok g ↦ Ok (record { factor = g; rcond = reciprocal_condition_number g.inverse m }) | Err r ↦ Err r ]) ≡ is_ok f
+        → is_ok {T = ConditionedFactor} {E = Refusal} (elim f [ Ok g ↦ Ok (record { factor = g; rcond = reciprocal_condition_number g.inverse m }) | Err r ↦ Err r ]) ≡ is_ok f
     by (Ok f) = refl
     by (Err r) = refl
 

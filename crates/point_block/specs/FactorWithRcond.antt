@@ -6,7 +6,7 @@ use Rattle.refusal.specs.declared.Refusal.{Refusal}
 use Rattle.refusal.specs.declared.Refusal.TheVariants.{Damping}
 use Rattle.point_block.specs.Damping.{is_valid_damping, damping_diagonal_of, with_added_diagonal, damped_matrix}
 use Rattle.point_block.specs.declared.PointBlockFactor.{PointBlockFactor}
-use Rattle.point_block.specs.declared.LoneFactor.{LoneFactor}
+use Rattle.point_block.specs.declared.ConditionedFactor.{ConditionedFactor}
 use Rattle.point_block.specs.Cholesky.{inverse_by}
 use Rattle.point_block.specs.Factor.{zero_factor, factor_damped}
 use Rattle.point_block.specs.Condition.{reciprocal_condition_number}
@@ -23,11 +23,11 @@ inverse_at m damping =
     inverse_by damped (damping_diagonal_of damped)
 
 -- +0 everywhere: what stands beside a refusal
-abbrev pub zero_conditioned_factor : LoneFactor
+abbrev pub zero_conditioned_factor : ConditionedFactor
 zero_conditioned_factor = record { factor = zero_factor; rcond = zero }
 
 -- the rcond is that of the matrix as handed in, undamped
-unfoldable pub factor_with_rcond : List Float → Float → Result LoneFactor Refusal
+unfoldable pub factor_with_rcond : List Float → Float → Result ConditionedFactor Refusal
 factor_with_rcond m damping =
     cond (is_valid_damping damping)
     (elim (factor m damping) [ Ok f ↦ Ok (record { factor = f; rcond = reciprocal_condition_number f.inverse m }) | Err r ↦ Err r ])

@@ -44,7 +44,7 @@ pub(crate) fn invert(m: [f64; 9], d: [f64; 3]) -> Option<[f64; 6]>
 {
     let scale = scale_of(d);
     let factor = cholesky_of(scaled_of(m, scale));
-    if !good_pivots(factor) {
+    if !has_valid_pivots(factor) {
         return None;
     }
     Some(inverse_of(factor.lower, scale))
@@ -103,17 +103,17 @@ fn cholesky_of(a: Lower) -> Factor
     }
 }
 
-fn good_pivot(p: f64) -> bool
+fn is_valid_pivot(p: f64) -> bool
     ensures { result ≡ Cholesky.is_valid_pivot p }
 {
-    numerics::is_finite(p) & (numerics::EPSILON64 < p)
+    numerics::is_finite(p) & (numerics::RELATIVE_TOLERANCE < p)
 }
 
 #[tactic(auto, unfolding(crate::specs::Cholesky::has_valid_pivots))]
-fn good_pivots(c: Factor) -> bool
+fn has_valid_pivots(c: Factor) -> bool
     ensures { result ≡ Cholesky.has_valid_pivots c }
 {
-    good_pivot(c.p0) & good_pivot(c.p1) & good_pivot(c.p2)
+    is_valid_pivot(c.p0) & is_valid_pivot(c.p1) & is_valid_pivot(c.p2)
 }
 
 // The block's inverse from its lower triangle and its scale: M is the triangle's inverse, the

@@ -30,7 +30,7 @@ pub struct PointBlockFactor {
 
 // A factor with its rcond: document 01's lone factor
 #[derive(Clone, Copy)]
-pub struct LoneFactor {
+pub struct ConditionedFactor {
     pub factor: PointBlockFactor,
     pub rcond: f64,
 }
@@ -38,21 +38,21 @@ pub struct LoneFactor {
 impl PointBlockFactor {
     /// The factor with its rcond. Tests row 3, then row 10.
     #[tactic(auto, unfolding(crate::specs::FactorWithRcond::factor_with_rcond))]
-    pub fn new(matrix: [f64; 9], damping: f64) -> Result<LoneFactor, Refusal>
+    pub fn factor_with_rcond(matrix: [f64; 9], damping: f64) -> Result<ConditionedFactor, Refusal>
         ensures result { result ≡ FactorWithRcond.factor_with_rcond matrix damping }
         ensures outcome { outcome FactorWithRcond.zero_conditioned_factor result
             ≡ outcome FactorWithRcond.zero_conditioned_factor (FactorWithRcond.factor_with_rcond matrix damping) }
     {
         let damping = ValidDamping::new(damping)?;
-        let factor = Self::factor(matrix, damping)?;
+        let factor = Self::new(matrix, damping)?;
         let rcond = factor.reciprocal_condition_number(matrix);
-        Ok(LoneFactor { factor, rcond })
+        Ok(ConditionedFactor { factor, rcond })
     }
 
     /// The factor of the matrix at a damping, which is the Rust's `new`. Tests row 10.
     #[tactic(auto, unfolding(crate::specs::FactorWithRcond::factor))]
     #[inline(always)]
-    pub fn factor(matrix: [f64; 9], damping: ValidDamping) -> Result<Self, Refusal>
+    pub fn new(matrix: [f64; 9], damping: ValidDamping) -> Result<Self, Refusal>
         ensures result { result ≡ FactorWithRcond.factor matrix damping }
         ensures outcome { outcome Factor.zero_factor result
             ≡ outcome Factor.zero_factor (FactorWithRcond.factor matrix damping) }
@@ -68,7 +68,7 @@ impl PointBlockFactor {
         ensures outcome { outcome Factor.zero_factor result
             ≡ outcome Factor.zero_factor (Factor.factor_damped damped) }
     {
-        let diagonal = point_damping::floored_diagonal(damped);
+        let diagonal = point_damping::damping_diagonal_of(damped);
         let inverse = cholesky::invert(damped, diagonal).ok_or(Refusal::NotFactored)?;
         Ok(Self { inverse })
     }
@@ -99,7 +99,7 @@ impl PointBlockFactor {
         ensures { result ≡ Condition.reciprocal_condition_number self.inverse matrix }
     {
         let denominator = infinity_norm(matrix) * infinity_norm(self.inverse_matrix());
-        if numerics::positive_finite(denominator) {
+        if numerics::is_positive_finite(denominator) {
             numerics::recip(denominator)
         } else {
             0.0
@@ -122,7 +122,7 @@ impl PointBlockFactor {
 pub fn is_weak(rcond: f64) -> bool
     ensures { result ≡ Condition.is_weak rcond }
 {
-    rcond <= numerics::EPSILON192
+    rcond <= numerics::POINT_BLOCK_RCOND_THRESHOLD
 }
 
 // The largest sum of a row's absolute values; each sum begins at −0.
@@ -130,7 +130,7 @@ pub fn is_weak(rcond: f64) -> bool
 fn infinity_norm(m: [f64; 9]) -> f64
     ensures { result ≡ Condition.infinity_norm m }
 {
-    extrema::largest([
+    extrema::fold_max([
         row_norm(m[0], m[1], m[2]),
         row_norm(m[3], m[4], m[5]),
         row_norm(m[6], m[7], m[8]),

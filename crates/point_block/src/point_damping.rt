@@ -67,7 +67,7 @@ fn is_valid_damping(damping: f64) -> bool
     numerics::is_finite(damping) & !(damping < 0.0)
 }
 
-/// The matrix with damping times the floored diagonal added along its diagonal. Row 10 where the
+/// The matrix with damping times the damping_diagonal_at diagonal added along its diagonal. Row 10 where the
 /// largest diagonal entry is not positive and finite.
 #[tactic(auto, unfolding(crate::specs::Damping::damped_matrix))]
 pub fn damped_matrix(matrix: [f64; 9], damping: ValidDamping) -> Result<[f64; 9], Refusal>
@@ -75,7 +75,7 @@ pub fn damped_matrix(matrix: [f64; 9], damping: ValidDamping) -> Result<[f64; 9]
     ensures outcome { outcome (zeros 9) result ≡ outcome (zeros 9) (Damping.damped_matrix matrix damping) }
 {
     let diagonal = damping_diagonal(matrix)?;
-    Ok(added_diagonal(matrix, damping.value(), diagonal))
+    Ok(with_added_diagonal(matrix, damping.value(), diagonal))
 }
 
 /// What damping is multiplied with. Row 10 where the largest diagonal entry is not positive and
@@ -86,41 +86,41 @@ pub fn damping_diagonal(matrix: [f64; 9]) -> Result<[f64; 3], Refusal>
     ensures outcome { outcome (zeros 3) result ≡ outcome (zeros 3) (Damping.damping_diagonal matrix) }
 {
     let scale = largest_diagonal(matrix);
-    if !numerics::positive_finite(scale) {
+    if !numerics::is_positive_finite(scale) {
         return Err(Refusal::NotFactored);
     }
-    Ok(floored(matrix, scale))
+    Ok(damping_diagonal_at(matrix, scale))
 }
 
 /// The diagonal, but no entry below 64ε of the largest.
-pub fn floored_diagonal(m: [f64; 9]) -> [f64; 3]
+pub fn damping_diagonal_of(m: [f64; 9]) -> [f64; 3]
     ensures { result ≡ Damping.damping_diagonal_of m }
 {
-    floored(m, largest_diagonal(m))
+    damping_diagonal_at(m, largest_diagonal(m))
 }
 
 #[tactic(auto, unfolding(crate::specs::Damping::largest_diagonal))]
 fn largest_diagonal(m: [f64; 9]) -> f64
     ensures { result ≡ Damping.largest_diagonal m }
 {
-    extrema::largest([m[0], m[4], m[8]])
+    extrema::fold_max([m[0], m[4], m[8]])
 }
 
-// The floored diagonal, from the largest entry, which is `scale`.
-fn floored(m: [f64; 9], scale: f64) -> [f64; 3]
+// The damping_diagonal_at diagonal, from the largest entry, which is `scale`.
+fn damping_diagonal_at(m: [f64; 9], scale: f64) -> [f64; 3]
     requires { scale ≡ Damping.largest_diagonal m }
     ensures { result ≡ Damping.damping_diagonal_of m }
 {
-    let floor = numerics::EPSILON64 * scale;
+    let floor = numerics::RELATIVE_TOLERANCE * scale;
     [
-        extrema::larger(floor, m[0]),
-        extrema::larger(floor, m[4]),
-        extrema::larger(floor, m[8]),
+        extrema::max_nonnegative(floor, m[0]),
+        extrema::max_nonnegative(floor, m[4]),
+        extrema::max_nonnegative(floor, m[8]),
     ]
 }
 
 #[tactic(auto, unfolding(crate::specs::Damping::with_added_diagonal))]
-fn added_diagonal(m: [f64; 9], damping: f64, d: [f64; 3]) -> [f64; 9]
+fn with_added_diagonal(m: [f64; 9], damping: f64, d: [f64; 3]) -> [f64; 9]
     ensures { result ≡ Damping.with_added_diagonal m damping d }
 {
     [

@@ -14,11 +14,11 @@ use Rattle.std.specs.Prelude.{Result, Ok, Err}
 use Rattle.std.specs.Result.{result_and, is_ok}
 use Rattle.refusal.specs.FirstRefusal.{CheckResult, refuse_unless, first_refusal_from}
 use Rattle.refusal.specs.declared.Refusal.{Refusal}
-use Rattle.refusal.specs.declared.Refusal.TheVariants.{Projection}
+use Rattle.refusal.specs.declared.Refusal.TheVariants.{PointNotProjectable}
 use Rattle.refusal.specs.declared.View.{View}
 use Rattle.refusal.specs.declared.View.TheVariants.{First, Second}
 use Rattle.refusal.proofs.Scans.{Scanned}
-use Rattle.projection.specs.declared.Projected.{Projected}
+use Rattle.projection.specs.declared.Projection.{Projection}
 use Rattle.problem.specs.Problem.{Problem, triple, observation, project}
 use Rattle.problem.specs.Checks.{check_view, check_projection}
 
@@ -61,7 +61,7 @@ unfolding first_refusal_from
 views_begin p i = (omega arith, none_after (check_view p i First) (check_view p i Second))
 
 -- what a view's test says of its check
-pub seen_check : (p : Problem) (i k : ℕ) (view : View) (seen point : List Float) (r : Result Projected Refusal) (good : Bool) → view ≡ get_or views k First
+pub seen_check : (p : Problem) (i k : ℕ) (view : View) (seen point : List Float) (r : Result Projection Refusal) (good : Bool) → view ≡ get_or views k First
     → seen ≡ observation p.view1 p.view2 view i → point ≡ triple p.points i → r ≡ project p.rig view seen point → is_ok r ≡ good
-    → check_at p i k ≡ refuse_unless good (Projection view i)
+    → check_at p i k ≡ refuse_unless good (PointNotProjectable view i)
 seen_check p i k view seen point r good v a b c d = rw (← d, ← v, c, a, b) refl

@@ -14,7 +14,7 @@ use Rattle.refusal.specs.declared.Refusal.{Refusal}
 use Rattle.projection.specs.PixelProjection.{pixel_projection}
 use Rattle.projection.proofs.Laws.{point_finite, observation_finite}
 use Rattle.refusal.specs.declared.View.TheVariants.{First, Second}
-use Rattle.refusal.specs.declared.Refusal.TheVariants.{Lengths, TooManyPoints, Damping, InverseDeviation, Baseline, TooFewPoints, Projection}
+use Rattle.refusal.specs.declared.Refusal.TheVariants.{Lengths, TooManyPoints, Damping, InverseStandardDeviation, Baseline, TooFewPoints, PointNotProjectable}
 use Rattle.point_block.specs.Damping.{is_valid_damping}
 use Rattle.linearization.specs.Views.{is_valid_inverse_standard_deviation, point_in_camera2, check_views}
 use Rattle.linearization.proofs.Tested.{accepted_is}
@@ -33,7 +33,7 @@ all_fit p v w n t h =
 pub record Passed (p : Problem) : Type 0 where
   pub fits : HasMatchingLengths p
   pub damping : T (is_valid_damping p.damping)
-  pub deviations : first_refusal_from (check_inverse_standard_deviation p.deviations) 0 (count p) ≡ Ok tt
+  pub inverse_standard_deviations : first_refusal_from (check_inverse_standard_deviation p.inverse_standard_deviations) 0 (count p) ≡ Ok tt
   pub projections : first_refusal_from (check_projection p) 0 (count p) ≡ Ok tt
 
 pub passed : (p : Problem) → check_problem p ≡ Ok tt → Passed p
@@ -42,8 +42,8 @@ passed p e =
     let lengths = after_ok (refuse_unless (has_matching_lengths p) Lengths) _ e in
     let points = after_ok (refuse_unless (leb (count p) max_points) TooManyPoints) (check_values p) lengths.1 in
     let damping = after_ok (refuse_unless (is_valid_damping p.damping) Damping) _ points.1 in
-    let deviations = after_ok (first_refusal_from (check_inverse_standard_deviation p.deviations) 0 (count p)) _ damping.1 in
-    let baseline = after_ok (refuse_unless (is_valid_baseline p.rig.pose.baseline) Baseline) _ deviations.1 in
+    let inverse_standard_deviations = after_ok (first_refusal_from (check_inverse_standard_deviation p.inverse_standard_deviations) 0 (count p)) _ damping.1 in
+    let baseline = after_ok (refuse_unless (is_valid_baseline p.rig.pose.baseline) Baseline) _ inverse_standard_deviations.1 in
     let coordinates = after_ok (first_refusal_from (check_point p.points) 0 (count p)) _ baseline.1 in
     let few = after_ok (refuse_unless (leb min_points (count p)) TooFewPoints) (check_both_views p) coordinates.1 in
     let view1 = after_ok (first_refusal_from (check_observation p First) 0 (count p)) _ few.1 in
@@ -51,7 +51,7 @@ passed p e =
     record {
       fits = all_fit _ _ _ _ (held (has_matching_lengths p) Lengths lengths.0) (held (leb (count p) max_points) TooManyPoints points.0);
       damping = subst T (sym (held (is_valid_damping p.damping) Damping damping.0)) tt;
-      deviations = deviations.0;
+      inverse_standard_deviations = inverse_standard_deviations.0;
       projections = view2.1;
     }
 
@@ -60,10 +60,10 @@ pub block_made : (p : Problem) → check_problem p ≡ Ok tt → (i : ℕ) → i
 unfolding linearize_point check_views project
 block_made p e i h =
     let k = passed p e in
-    let deviation = held (is_valid_inverse_standard_deviation (p.deviations ! i)) (InverseDeviation i) (all_ok (check_inverse_standard_deviation p.deviations) (count p) i h k.deviations) in
+    let deviation = held (is_valid_inverse_standard_deviation (p.inverse_standard_deviations ! i)) (InverseStandardDeviation i) (all_ok (check_inverse_standard_deviation p.inverse_standard_deviations) (count p) i h k.inverse_standard_deviations) in
     let both = after_ok (check_view p i First) (check_view p i Second) (all_ok (check_projection p) (count p) i h k.projections) in
-    let first_refusal_from = held _ (Projection First i) both.0 in
-    let second = held _ (Projection Second i) both.1 in
+    let first_refusal_from = held _ (PointNotProjectable First i) both.0 in
+    let second = held _ (PointNotProjectable Second i) both.1 in
     rw (deviation, first_refusal_from, second) refl
 
 -- ---- row by row
@@ -90,7 +90,7 @@ module _ (p : Problem) (fits : HasMatchingLengths p) (damping : T (is_valid_damp
     (accepted : AcceptsFirst p (count p)) where
   -- what the tests of a point's views say
   record Seen (i : ℕ) : Type 0 where
-    deviation : is_valid_inverse_standard_deviation (p.deviations ! i) ≡ true
+    deviation : is_valid_inverse_standard_deviation (p.inverse_standard_deviations ! i) ≡ true
     view1 : is_ok (pixel_projection p.rig.camera1 (pair p.view1 i) (triple p.points i)) ≡ true
     view2 : is_ok (pixel_projection p.rig.camera2 (pair p.view2 i) (point_in_camera2 p.rig (correspondence_at p i))) ≡ true
 
@@ -100,7 +100,7 @@ module _ (p : Problem) (fits : HasMatchingLengths p) (damping : T (is_valid_damp
       let d = and_parts _ _ e.0 in
       record { deviation = d.0; view1 = d.1; view2 = e.1 }
 
-  deviations_pass : (i : ℕ) → i < count p → check_inverse_standard_deviation p.deviations i ≡ Ok tt
+  deviations_pass : (i : ℕ) → i < count p → check_inverse_standard_deviation p.inverse_standard_deviations i ≡ Ok tt
   deviations_pass i h = rw ((seen i h).deviation) refl
 
   points_pass : (i : ℕ) → i < count p → check_point p.points i ≡ Ok tt
@@ -133,7 +133,7 @@ module _ (p : Problem) (fits : HasMatchingLengths p) (damping : T (is_valid_damp
       fitting_check p fits
       ∙ rw (
         is_true _ damping,
-        passes (check_inverse_standard_deviation p.deviations) n deviations_pass,
+        passes (check_inverse_standard_deviation p.inverse_standard_deviations) n deviations_pass,
         r.0,
         passes (check_point p.points) n points_pass,
         r.1,

@@ -10,7 +10,7 @@ use Rattle.numerics.specs.Vectors.{◌!◌, all_finite}
 use Rattle.refusal.specs.FirstRefusal.{CheckResult, refuse_unless, first_refusal, first_refusal_from}
 use Rattle.refusal.specs.declared.View.{View}
 use Rattle.refusal.specs.declared.View.TheVariants.{First, Second}
-use Rattle.refusal.specs.declared.Refusal.TheVariants.{Lengths, TooManyPoints, Damping, InverseDeviation, Baseline, Point, TooFewPoints, Observation, Projection}
+use Rattle.refusal.specs.declared.Refusal.TheVariants.{Lengths, TooManyPoints, Damping, InverseStandardDeviation, Baseline, Point, TooFewPoints, Observation, PointNotProjectable}
 use Rattle.point_block.specs.Damping.{is_valid_damping}
 use Rattle.linearization.specs.Views.{is_valid_inverse_standard_deviation, check_views}
 use Rattle.problem.specs.Problem.{Problem, count, triple, observation, correspondence_at, project}
@@ -32,7 +32,7 @@ HasMatchingLengths p = (length p.points ≡ 3 * count p) × (length p.view1 ≡ 
 
 -- row 4
 abbrev pub check_inverse_standard_deviation : List Float → ℕ → CheckResult
-check_inverse_standard_deviation deviations i = refuse_unless (is_valid_inverse_standard_deviation (deviations ! i)) (InverseDeviation i)
+check_inverse_standard_deviation inverse_standard_deviations i = refuse_unless (is_valid_inverse_standard_deviation (inverse_standard_deviations ! i)) (InverseStandardDeviation i)
 
 -- row 5
 unfoldable pub is_valid_baseline : Float → Bool
@@ -48,7 +48,7 @@ check_observation p view i = refuse_unless (all_finite (observation p.view1 p.vi
 
 -- row 9 for one view of a point, then for both
 abbrev pub check_view : Problem → ℕ → View → CheckResult
-check_view p i view = refuse_unless (is_ok (project p.rig view (observation p.view1 p.view2 view i) (triple p.points i))) (Projection view i)
+check_view p i view = refuse_unless (is_ok (project p.rig view (observation p.view1 p.view2 view i) (triple p.points i))) (PointNotProjectable view i)
 
 abbrev pub check_projection : Problem → ℕ → CheckResult
 check_projection p i = first_refusal (check_view p i First ∷ check_view p i Second ∷ [])
@@ -67,7 +67,7 @@ unfoldable pub check_values : Problem → CheckResult
 check_values p =
     first_refusal (
     refuse_unless (is_valid_damping p.damping) Damping
-    ∷ first_refusal_from (check_inverse_standard_deviation p.deviations) 0 (count p)
+    ∷ first_refusal_from (check_inverse_standard_deviation p.inverse_standard_deviations) 0 (count p)
     ∷ refuse_unless (is_valid_baseline p.rig.pose.baseline) Baseline
     ∷ first_refusal_from (check_point p.points) 0 (count p)
     ∷ refuse_unless (leb min_points (count p)) TooFewPoints

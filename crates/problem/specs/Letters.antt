@@ -4,11 +4,11 @@ use Rattle.point_block.specs.Damping.{is_zero}
 use Rattle.point_block.specs.Condition.{reciprocal_condition_number, is_weak}
 use Rattle.point_block.specs.FactorWithRcond.{factor}
 use Rattle.linearization.specs.declared.linearize.LocalLinearization.{LocalLinearization}
-use Rattle.problem.specs.declared.letters.Grade.{Grade}
-use Rattle.problem.specs.declared.letters.Grade.TheVariants.{NotFactored, Weak, Good, Factored}
+use Rattle.problem.specs.declared.letters.BlockQuality.{BlockQuality}
+use Rattle.problem.specs.declared.letters.BlockQuality.TheVariants.{NotFactored, Weak, Good, Factored}
 
 -- at damping zero a block that factors is weak with rcond ≤ 192ε, and good above it
-unfoldable pub quality_of : LocalLinearization → Float → Grade
+unfoldable pub quality_of : LocalLinearization → Float → BlockQuality
 quality_of b damping =
     elim (factor b.point_hessian damping) [
       | Ok f ↦ cond (is_zero damping) (cond (is_weak (reciprocal_condition_number f.inverse b.point_hessian)) Weak Good) Factored
@@ -16,7 +16,7 @@ quality_of b damping =
     ]
 
 -- `n` does not factor; at damping zero `w` is weak and `g` good; at other dampings `f` factors
-abbrev pub letter_byte : Grade → ℕ
+abbrev pub letter_byte : BlockQuality → ℕ
 letter_byte NotFactored = 110
 letter_byte Weak = 119
 letter_byte Good = 103

@@ -7,7 +7,7 @@ use Rattle.refusal.specs.declared.View.TheVariants.{First, Second}
 use Rattle.refusal.specs.declared.Refusal.{Refusal}
 use Rattle.projection.specs.CameraFrame.{rotate, camera_point}
 use Rattle.projection.specs.PixelProjection.{pixel_projection}
-use Rattle.projection.specs.declared.Projected.{Projected}
+use Rattle.projection.specs.declared.Projection.{Projection}
 use Rattle.linearization.specs.declared.views.Correspondence.{Correspondence}
 use Rattle.linearization.specs.declared.views.Rig.{Rig}
 use Rattle.problem.specs.declared.correspondences.Problem as Lent
@@ -17,20 +17,20 @@ pub record Problem : Type 0 where
   pub points : List Float
   pub view1 : List Float
   pub view2 : List Float
-  pub deviations : List Float
+  pub inverse_standard_deviations : List Float
   pub rig : Rig
   pub damping : Float
 
 abbrev pub problem : List Float → List Float → List Float → List Float → Rig → Float → Problem
-problem points view1 view2 deviations rig damping = record { points = points; view1 = view1; view2 = view2; deviations = deviations; rig = rig; damping = damping }
+problem points view1 view2 inverse_standard_deviations rig damping = record { points = points; view1 = view1; view2 = view2; inverse_standard_deviations = inverse_standard_deviations; rig = rig; damping = damping }
 
 -- the problem that lent lists make
 abbrev pub of : Lent.Problem → Problem
-of p = problem p.points.now p.view1.now p.view2.now p.inverse_deviations.now p.rig p.damping
+of p = problem p.points.now p.view1.now p.view2.now p.inverse_standard_deviations.now p.rig p.damping
 
 -- n, where the lengths belong to one count
 abbrev pub count : Problem → ℕ
-count p = length p.deviations
+count p = length p.inverse_standard_deviations
 
 abbrev pub triple : List Float → ℕ → List Float
 triple l i = l ! (3 * i) ∷ l ! (3 * i + 1) ∷ l ! (3 * i + 2) ∷ []
@@ -44,9 +44,9 @@ observation view1 view2 First i = pair view1 i
 observation view1 view2 Second i = pair view2 i
 
 abbrev pub correspondence_at : Problem → ℕ → Correspondence
-correspondence_at p i = record { point = triple p.points i; view1 = pair p.view1 i; view2 = pair p.view2 i; inverse_deviation = p.deviations ! i }
+correspondence_at p i = record { point = triple p.points i; view1 = pair p.view1 i; view2 = pair p.view2 i; inverse_standard_deviation = p.inverse_standard_deviations ! i }
 
 -- `transform` and `project` of residual.rs: a point as a view sees it
-unfoldable pub project : Rig → View → List Float → List Float → Result Projected Refusal
+unfoldable pub project : Rig → View → List Float → List Float → Result Projection Refusal
 project rig First seen point = pixel_projection rig.camera1 seen point
 project rig Second seen point = pixel_projection rig.camera2 seen (camera_point (rotate rig.pose.rotation point) rig.pose.translation)

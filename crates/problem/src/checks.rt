@@ -107,7 +107,7 @@ impl<'a> ReadableProblem<'a> {
         ensures passes { result ≡ true → Checks.AcceptsFirst self.now (Problems.count self.now)
             → Checks.check_problem self.now ≡ Ok tt }
     {
-        good_baseline(self.fitting.problem.rig.pose.baseline)
+        is_valid_baseline(self.fitting.problem.rig.pose.baseline)
             & (self.fitting.count() >= MINIMUM_POINTS)
     }
 }
@@ -162,26 +162,31 @@ fn check_values(fitting: FittingProblem) -> Result<(), Refusal>
     requires { T (is_valid_damping fitting.problem.now.damping) }
     ensures { result ≡ Checks.check_values (Problems.of fitting.entry.problem.now) }
 {
-    check_deviations(fitting)?;
-    if !good_baseline(fitting.problem.rig.pose.baseline) {
+    check_inverse_standard_deviations(fitting)?;
+    if !is_valid_baseline(fitting.problem.rig.pose.baseline) {
         return Err(Refusal::Baseline);
     }
     check_points(fitting)?;
     if fitting.count() < MINIMUM_POINTS {
         return Err(Refusal::TooFewPoints);
     }
-    check_seen(fitting)
+    check_both_views(fitting)
 }
 
 // Row 4
 #[tactic(auto, using(refusal::proofs::Scans::leaves, refusal::proofs::Scans::goes_on, refusal::proofs::Scans::ends))]
-fn check_deviations(fitting: FittingProblem) -> Result<(), Refusal>
-    ensures { result ≡ FirstRefusal.first_refusal_from (Checks.check_inverse_standard_deviation (Problems.of fitting.entry.problem.now).deviations) 0
+fn check_inverse_standard_deviations(fitting: FittingProblem) -> Result<(), Refusal>
+    ensures { result ≡ FirstRefusal.first_refusal_from (Checks.check_inverse_standard_deviation (Problems.of fitting.entry.problem.now).inverse_standard_deviations) 0
         (Problems.count (Problems.of fitting.entry.problem.now)) }
 {
-    for (i, x) in fitting.problem.inverse_deviations.iter().enumerate() {
-        if !views::good_deviation(*x) {
-            return Err(Refusal::InverseDeviation { index: i as u32 });
+    for (i, x) in fitting
+        .problem
+        .inverse_standard_deviations
+        .iter()
+        .enumerate()
+    {
+        if !views::is_valid_inverse_standard_deviation(*x) {
+            return Err(Refusal::InverseStandardDeviation { index: i as u32 });
         }
     }
     Ok(())
@@ -189,10 +194,10 @@ fn check_deviations(fitting: FittingProblem) -> Result<(), Refusal>
 
 // Row 5
 #[tactic(auto, unfolding(crate::specs::Checks::is_valid_baseline))]
-fn good_baseline(baseline: f64) -> bool
+fn is_valid_baseline(baseline: f64) -> bool
     ensures { result ≡ Checks.is_valid_baseline baseline }
 {
-    numerics::is_finite(baseline) && !(baseline <= numerics::EPSILON64)
+    numerics::is_finite(baseline) && !(baseline <= numerics::RELATIVE_TOLERANCE)
 }
 
 // Row 6
@@ -212,7 +217,7 @@ fn check_points(fitting: FittingProblem) -> Result<(), Refusal>
 
 // Rows 8 and 9
 #[tactic(auto, unfolding(crate::specs::Checks::check_both_views))]
-fn check_seen(fitting: FittingProblem) -> Result<(), Refusal>
+fn check_both_views(fitting: FittingProblem) -> Result<(), Refusal>
     ensures { result ≡ Checks.check_both_views (Problems.of fitting.entry.problem.now) }
 {
     check_view(fitting, View::First)?;
@@ -252,7 +257,7 @@ fn check_projections(fitting: FittingProblem) -> Result<(), Refusal>
                 point.coordinates(),
             );
             if projected.is_err() {
-                checked = Err(Refusal::Projection { view, index });
+                checked = Err(Refusal::PointNotProjectable { view, index });
                 break 'points;
             }
         }

@@ -10,7 +10,7 @@ ghost use Rattle.problem.specs.Checks as Checks;
 
 use linearization::views::Correspondence;
 pub use linearization::views::Rig;
-use projection::Projected;
+use projection::Projection;
 use refusal::{Refusal, View};
 
 /// What a whole step is lent and handed: three numbers a point, two a point in each view, one
@@ -20,7 +20,7 @@ pub struct Problem<'a> {
     pub points: &'a [f64],
     pub view1: &'a [f64],
     pub view2: &'a [f64],
-    pub inverse_deviations: &'a [f64],
+    pub inverse_standard_deviations: &'a [f64],
     pub rig: Rig,
     pub damping: f64,
 }
@@ -46,7 +46,7 @@ impl<'a> Problem<'a> {
     pub fn count(&self) -> usize
         ensures { result ≡ Problems.count (Problems.of self.now) }
     {
-        self.inverse_deviations.len()
+        self.inverse_standard_deviations.len()
     }
 }
 
@@ -100,7 +100,10 @@ impl<'a> ProblemPoint<'a> {
             point: self.coordinates(),
             view1: self.seen(View::First),
             view2: self.seen(View::Second),
-            inverse_deviation: self.fitting.problem.inverse_deviations[self.index as usize],
+            inverse_standard_deviation: self
+                .fitting
+                .problem
+                .inverse_standard_deviations[self.index as usize],
         }
     }
 }
@@ -112,7 +115,7 @@ pub(crate) fn project(
     view: View,
     observation: [f64; 2],
     point: [f64; 3],
-) -> Result<Projected, Refusal>
+) -> Result<Projection, Refusal>
     ensures { result ≡ Problems.project rig.now view observation point }
 {
     match view {

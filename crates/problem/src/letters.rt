@@ -9,7 +9,7 @@ use point_block::point_damping::ValidDamping;
 
 // How a point's block factors
 #[derive(Clone, Copy, Debug, PartialEq, Eq)]
-enum Grade {
+enum BlockQuality {
     NotFactored,
     // at damping zero, with an rcond of at most 192ε
     Weak,
@@ -19,21 +19,21 @@ enum Grade {
     Factored,
 }
 
-impl Grade {
+impl BlockQuality {
     #[tactic(auto, unfolding(crate::specs::Letters::quality_of))]
     fn of(local: LocalLinearization, damping: ValidDamping) -> Self
         ensures { result ≡ Letters.quality_of local damping }
     {
-        let Ok(factor) = PointBlockFactor::factor(local.point_hessian, damping) else {
-            return Grade::NotFactored;
+        let Ok(factor) = PointBlockFactor::new(local.point_hessian, damping) else {
+            return BlockQuality::NotFactored;
         };
         if !damping.is_zero() {
-            return Grade::Factored;
+            return BlockQuality::Factored;
         }
         if point_block::is_weak(factor.reciprocal_condition_number(local.point_hessian)) {
-            Grade::Weak
+            BlockQuality::Weak
         } else {
-            Grade::Good
+            BlockQuality::Good
         }
     }
 
@@ -41,10 +41,10 @@ impl Grade {
         ensures { result ≡ Letters.letter_byte self }
     {
         match self {
-            Grade::NotFactored => b'n',
-            Grade::Weak => b'w',
-            Grade::Good => b'g',
-            Grade::Factored => b'f',
+            BlockQuality::NotFactored => b'n',
+            BlockQuality::Weak => b'w',
+            BlockQuality::Good => b'g',
+            BlockQuality::Factored => b'f',
         }
     }
 }
@@ -53,8 +53,8 @@ impl Grade {
 /// good; at
 /// other dampings `f` factors.
 #[tactic(auto, unfolding(crate::specs::Letters::letter_of))]
-pub fn letter(local: LocalLinearization, damping: ValidDamping) -> u8
+pub fn letter_of(local: LocalLinearization, damping: ValidDamping) -> u8
     ensures { result ≡ Letters.letter_of local damping }
 {
-    Grade::of(local, damping).byte()
+    BlockQuality::of(local, damping).byte()
 }

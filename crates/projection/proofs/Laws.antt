@@ -7,55 +7,55 @@ use lib.Ieee.{Float, binary64}
 use lib.Ieee.Fits.{and_l, and_r}
 use Rattle.std.specs.Prelude.{Result, Ok, Err, is_ok}
 use Rattle.refusal.specs.declared.Refusal.{Refusal}
-use Rattle.refusal.specs.declared.Refusal.TheVariants.{LoneProjection}
+use Rattle.refusal.specs.declared.Refusal.TheVariants.{NotProjectable}
 use Rattle.numerics.specs.Classify.{is_finite}
 use Rattle.numerics.specs.Vectors.{◌!◌}
 use Rattle.numerics.proofs.Finite.{finite_sub}
 use Rattle.projection.specs.declared.PinholeCamera.{PinholeCamera}
-use Rattle.projection.specs.declared.Projected.{Projected}
+use Rattle.projection.specs.declared.Projection.{Projection}
 use Rattle.projection.specs.PixelProjection.{is_in_front, residual_and_jacobian, all_finite, pixel_projection}
 
 -- a point that is not in front is refused
-pub behind : (camera : PinholeCamera) (observation point : List Float) → is_in_front point ≡ false → pixel_projection camera observation point ≡ Err LoneProjection
+pub behind : (camera : PinholeCamera) (observation point : List Float) → is_in_front point ≡ false → pixel_projection camera observation point ≡ Err NotProjectable
 unfolding pixel_projection
 behind camera observation point e = rw e refl
 
 -- what is projected are the formulas' numbers
-pub projected_is : (camera : PinholeCamera) (observation point : List Float) (p : Projected) → pixel_projection camera observation point ≡ Ok p → p ≡ residual_and_jacobian camera observation point
+pub projected_is : (camera : PinholeCamera) (observation point : List Float) (p : Projection) → pixel_projection camera observation point ≡ Ok p → p ≡ residual_and_jacobian camera observation point
 unfolding pixel_projection
 projected_is camera observation point p = by (is_in_front point) (all_finite q)
   where
-    q : Projected
+    q : Projection
     q = residual_and_jacobian camera observation point
 
-    by : (f g : Bool) → cond f (cond g (Ok q) (Err LoneProjection)) (Err LoneProjection) ≡ Ok p → p ≡ q
+    by : (f g : Bool) → cond f (cond g (Ok q) (Err NotProjectable)) (Err NotProjectable) ≡ Ok p → p ≡ q
     by true true h = cc
     by true false h = cc
     by false g h = cc
 
 -- where nothing is refused, the residual and the Jacobian are finite
-pub projection_finite : (camera : PinholeCamera) (observation point : List Float) (p : Projected) → pixel_projection camera observation point ≡ Ok p → T (all_finite p)
+pub projection_finite : (camera : PinholeCamera) (observation point : List Float) (p : Projection) → pixel_projection camera observation point ≡ Ok p → T (all_finite p)
 unfolding pixel_projection
 projection_finite camera observation point p = by (is_in_front point) (all_finite q) refl
   where
-    q : Projected
+    q : Projection
     q = residual_and_jacobian camera observation point
 
-    by : (f g : Bool) → all_finite q ≡ g → cond f (cond g (Ok q) (Err LoneProjection)) (Err LoneProjection) ≡ Ok p → T (all_finite p)
+    by : (f g : Bool) → all_finite q ≡ g → cond f (cond g (Ok q) (Err NotProjectable)) (Err NotProjectable) ≡ Ok p → T (all_finite p)
     by true true e h = let k : q ≡ p = cc in rw (← k, e) tt
     by true false e h = cc
     by false g e h = cc
 
 -- what is let through, and by which tests
 module _ (camera : PinholeCamera) (observation point : List Float) where
-  abbrev tested : Projected
+  abbrev tested : Projection
   tested = residual_and_jacobian camera observation point
 
   pub projectable_is : (is_in_front point && all_finite tested) ≡ is_ok (pixel_projection camera observation point)
   unfolding pixel_projection
   projectable_is = by (is_in_front point) (all_finite tested)
     where
-      by : (f g : Bool) → (f && g) ≡ is_ok (cond f (cond g (Ok tested) (Err LoneProjection)) (Err LoneProjection))
+      by : (f g : Bool) → (f && g) ≡ is_ok (cond f (cond g (Ok tested) (Err NotProjectable)) (Err NotProjectable))
       by true true = refl
       by true false = refl
       by false g = refl
@@ -63,15 +63,15 @@ module _ (camera : PinholeCamera) (observation point : List Float) where
   pub let_through : is_ok (pixel_projection camera observation point) ≡ true → Ok tested ≡ pixel_projection camera observation point
   let_through = by (pixel_projection camera observation point) refl
     where
-      by : (r : Result Projected Refusal) → pixel_projection camera observation point ≡ r → is_ok r ≡ true → Ok tested ≡ r
+      by : (r : Result Projection Refusal) → pixel_projection camera observation point ≡ r → is_ok r ≡ true → Ok tested ≡ r
       by (Ok p) e t = ap Ok (sym (projected_is camera observation point p e))
       by (Err r) e t = absurd (cc)
 
-  pub refused : is_ok (pixel_projection camera observation point) ≡ false → Err LoneProjection ≡ pixel_projection camera observation point
+  pub refused : is_ok (pixel_projection camera observation point) ≡ false → Err NotProjectable ≡ pixel_projection camera observation point
   unfolding pixel_projection
   refused = by (is_in_front point) (all_finite tested)
     where
-      by : (f g : Bool) → is_ok (cond f (cond g (Ok tested) (Err LoneProjection)) (Err LoneProjection)) ≡ false → Err LoneProjection ≡ cond f (cond g (Ok tested) (Err LoneProjection)) (Err LoneProjection)
+      by : (f g : Bool) → is_ok (cond f (cond g (Ok tested) (Err NotProjectable)) (Err NotProjectable)) ≡ false → Err NotProjectable ≡ cond f (cond g (Ok tested) (Err NotProjectable)) (Err NotProjectable)
       by true true t = absurd (cc)
       by true false t = refl
       by false g t = refl

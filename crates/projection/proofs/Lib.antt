@@ -2,4 +2,4 @@
 -- not finite.
 pub mod Laws
 mod Front
-mod Pose
+mod CameraFrameLaws

@@ -4,7 +4,7 @@ use Rattle.std.specs.Prelude.{◌≡◌, false, List, [], ◌∷◌, ℕ, ◌<�
 use Rattle.numerics.specs.Binary64.{◌⊕◌, ◌⊗◌}
 use Rattle.numerics.specs.Classify.{is_finite}
 use Rattle.numerics.specs.Vectors.{◌!◌}
-use Rattle.refusal.specs.declared.Refusal.TheVariants.{LoneProjection}
+use Rattle.refusal.specs.declared.Refusal.TheVariants.{NotProjectable}
 use Rattle.projection.specs.declared.PinholeCamera.{PinholeCamera}
 use Rattle.projection.specs.PixelProjection.{pixel_projection}
 
@@ -24,7 +24,7 @@ camera_point rotated translation = rotated ! 0 ⊕ translation ! 0 ∷ rotated !
 pub record NonFinitePoseIsNotProjectable : Type 0 where
   pub rotation : (rotation translation : List Float) (i : ℕ) → i < 9 → is_finite (rotation ! i) ≡ false
       → (camera : PinholeCamera) (observation point : List Float)
-      → pixel_projection camera observation (camera_point (rotate rotation point) translation) ≡ Err LoneProjection
+      → pixel_projection camera observation (camera_point (rotate rotation point) translation) ≡ Err NotProjectable
   pub translation : (rotation translation : List Float) (i : ℕ) → i < 3 → is_finite (translation ! i) ≡ false
       → (camera : PinholeCamera) (observation point : List Float)
-      → pixel_projection camera observation (camera_point (rotate rotation point) translation) ≡ Err LoneProjection
+      → pixel_projection camera observation (camera_point (rotate rotation point) translation) ≡ Err NotProjectable

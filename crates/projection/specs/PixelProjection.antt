@@ -6,9 +6,9 @@ use Rattle.numerics.specs.Classify.{is_finite, abs}
 use Rattle.numerics.specs.Vectors.{◌!◌, zeros}
 use Rattle.numerics.specs.Extrema.{fold_max}
 use Rattle.refusal.specs.declared.Refusal.{Refusal}
-use Rattle.refusal.specs.declared.Refusal.TheVariants.{LoneProjection}
+use Rattle.refusal.specs.declared.Refusal.TheVariants.{NotProjectable}
 use Rattle.projection.specs.declared.PinholeCamera.{PinholeCamera}
-use Rattle.projection.specs.declared.Projected.{Projected}
+use Rattle.projection.specs.declared.Projection.{Projection}
 use Rattle.projection.specs.declared.TestedProjection.{TestedProjection}
 
 -- every coordinate is finite, and the depth is not at or below 64ε times the largest absolute
@@ -19,7 +19,7 @@ is_in_front point =
     && not (le (point ! 2) (relative_tolerance ⊗ fold_max (abs (point ! 0) ∷ abs (point ! 1) ∷ abs (point ! 2) ∷ [])))
 
 -- the residual, and the rows of the Jacobian
-unfoldable pub residual_and_jacobian : PinholeCamera → List Float → List Float → Projected
+unfoldable pub residual_and_jacobian : PinholeCamera → List Float → List Float → Projection
 residual_and_jacobian camera observation point =
     let inverse_depth = recip (point ! 2) in
     let inverse_depth_squared = inverse_depth ⊗ inverse_depth in
@@ -36,7 +36,7 @@ residual_and_jacobian camera observation point =
           ∷ [];
     }
 
-unfoldable pub all_finite : Projected → Bool
+unfoldable pub all_finite : Projection → Bool
 all_finite p =
     is_finite (p.residual ! 0) && is_finite (p.residual ! 1) && is_finite (p.jacobian ! 0) && is_finite (p.jacobian ! 1) && is_finite (p.jacobian ! 2)
     && is_finite (p.jacobian ! 3)
@@ -44,18 +44,18 @@ all_finite p =
     && is_finite (p.jacobian ! 5)
 
 -- +0 everywhere: what stands beside a refusal
-abbrev pub zero_projection : Projected
+abbrev pub zero_projection : Projection
 zero_projection = record { residual = zeros 2; jacobian = zeros 6 }
 
 -- refused with row 9, with view 0 and index 0
-unfoldable pub pixel_projection : PinholeCamera → List Float → List Float → Result Projected Refusal
+unfoldable pub pixel_projection : PinholeCamera → List Float → List Float → Result Projection Refusal
 pixel_projection camera observation point =
     let p = residual_and_jacobian camera observation point in
-    cond (is_in_front point) (cond (all_finite p) (Ok p) (Err LoneProjection)) (Err LoneProjection)
+    cond (is_in_front point) (cond (all_finite p) (Ok p) (Err NotProjectable)) (Err NotProjectable)
 
 -- the formulas' numbers, and whether they are refused
 abbrev pub tested_projection : PinholeCamera → List Float → List Float → TestedProjection
 tested_projection camera observation point = record {
-  projected = residual_and_jacobian camera observation point;
+  projection = residual_and_jacobian camera observation point;
   projectable = is_ok (pixel_projection camera observation point);
 }

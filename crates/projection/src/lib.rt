@@ -36,7 +36,7 @@ pub struct PinholeCamera {
 
 /// The residual, and its derivative by the point in the camera's frame: two rows of three.
 #[derive(Clone, Copy)]
-pub struct Projected {
+pub struct Projection {
     pub residual: [f64; 2],
     pub jacobian: [f64; 6],
 }
@@ -45,7 +45,7 @@ pub struct Projected {
 /// `pixel_projection` lets it through
 #[derive(Clone, Copy)]
 pub struct TestedProjection {
-    pub projected: Projected,
+    pub projection: Projection,
     pub projectable: bool,
 }
 
@@ -59,19 +59,19 @@ pub fn pixel_projection(
     camera: &PinholeCamera,
     observation: [f64; 2],
     point: [f64; 3],
-) -> Result<Projected, Refusal>
+) -> Result<Projection, Refusal>
     ensures result { result ≡ PixelProjection.pixel_projection camera.now observation point }
     ensures outcome { outcome zero_projection result
         ≡ outcome zero_projection (PixelProjection.pixel_projection camera.now observation point) }
 {
     let TestedProjection {
-        projected,
+        projection,
         projectable,
     } = tested_projection(camera, observation, point);
     if projectable {
-        Ok(projected)
+        Ok(projection)
     } else {
-        Err(Refusal::LoneProjection)
+        Err(Refusal::NotProjectable)
     }
 }
 
@@ -85,10 +85,10 @@ pub fn tested_projection(
 ) -> TestedProjection
     ensures { result ≡ PixelProjection.tested_projection camera.now observation point }
 {
-    let projected = linearized(camera, observation, point);
+    let projection = residual_and_jacobian(camera, observation, point);
     TestedProjection {
-        projected,
-        projectable: in_front(point) & all_finite(projected),
+        projection,
+        projectable: is_in_front(point) & all_finite(projection),
     }
 }
 
@@ -96,34 +96,40 @@ pub fn tested_projection(
 // them. Always inlined, so that the coordinates stay in registers.
 #[tactic(auto, unfolding(crate::specs::PixelProjection::is_in_front))]
 #[inline(always)]
-fn in_front(point: [f64; 3]) -> bool
+fn is_in_front(point: [f64; 3]) -> bool
     ensures { result ≡ PixelProjection.is_in_front point }
 {
-    in_front_of(point[0], point[1], point[2])
+    is_in_front_of(point[0], point[1], point[2])
 }
 
 // The same of the coordinates one by one, by comparisons alone: 64ε of an absolute value is below z
 // where 64ε of the value is between −z and z. That of an infinity or of a NaN never is. Where 64ε
 // of z is below z, z is above 0, so that its own negative need not be asked.
 #[inline(always)]
-fn in_front_of(x: f64, y: f64, z: f64) -> bool
+fn is_in_front_of(x: f64, y: f64, z: f64) -> bool
     ensures { result ≡ PixelProjection.is_in_front (x ∷ y ∷ z ∷ []) }
 {
-    let right = numerics::EPSILON64 * x;
-    let down = numerics::EPSILON64 * y;
-    (numerics::EPSILON64 * z < z) & ((right < z) & (-z < right)) & ((down < z) & (-z < down))
+    let right = numerics::RELATIVE_TOLERANCE * x;
+    let down = numerics::RELATIVE_TOLERANCE * y;
+    (numerics::RELATIVE_TOLERANCE * z < z)
+        & ((right < z) & (-z < right))
+        & ((down < z) & (-z < down))
 }
 
 // The residual and the Jacobian by the formulas alone
 #[tactic(auto, unfolding(crate::specs::PixelProjection::residual_and_jacobian))]
 #[inline(always)]
-fn linearized(camera: &PinholeCamera, observation: [f64; 2], point: [f64; 3]) -> Projected
+fn residual_and_jacobian(
+    camera: &PinholeCamera,
+    observation: [f64; 2],
+    point: [f64; 3],
+) -> Projection
     ensures { result ≡ PixelProjection.residual_and_jacobian camera.now observation point }
 {
     let inverse_depth = numerics::recip(point[2]);
     let inverse_depth_squared = inverse_depth * inverse_depth;
     let x_numerator = camera.fx * point[0] + camera.skew * point[1];
-    Projected {
+    Projection {
         residual: [
             x_numerator * inverse_depth + camera.cx - observation[0],
             camera.fy * point[1] * inverse_depth + camera.cy - observation[1],
@@ -142,10 +148,10 @@ fn linearized(camera: &PinholeCamera, observation: [f64; 2], point: [f64; 3]) ->
 // By one product, as `numerics::vectors::all_finite`: written out, so that the numbers stay in
 // registers.
 #[inline(always)]
-fn all_finite(projected: Projected) -> bool
-    ensures { result ≡ PixelProjection.all_finite projected }
+fn all_finite(projection: Projection) -> bool
+    ensures { result ≡ PixelProjection.all_finite projection }
 {
-    let r = projected.residual;
-    let j = projected.jacobian;
+    let r = projection.residual;
+    let j = projection.jacobian;
     0.0 * r[0] * r[1] * j[0] * j[1] * j[2] * j[3] * j[4] * j[5] == 0.0
 }

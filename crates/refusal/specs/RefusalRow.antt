@@ -7,7 +7,7 @@ use Rattle.refusal.specs.declared.Row.{Row}
 use Rattle.refusal.specs.declared.View.{View}
 use Rattle.refusal.specs.declared.View.TheVariants.{First, Second}
 use Rattle.refusal.specs.declared.Refusal.{Refusal}
-use Rattle.refusal.specs.declared.Refusal.TheVariants.{Lengths, TooManyPoints, Damping, InverseDeviation, Baseline, Point, TooFewPoints, Observation, LoneProjection, Projection, NotFactored, NotSolved, WeakCount, Full, RecordTooLong, RecordForm}
+use Rattle.refusal.specs.declared.Refusal.TheVariants.{Lengths, TooManyPoints, Damping, InverseStandardDeviation, Baseline, Point, TooFewPoints, Observation, NotProjectable, PointNotProjectable, NotFactored, NotSolved, WeakCount, Full, RecordTooLong, RecordForm}
 
 abbrev pub row_at : ℕ → ℕ → ℕ → Row
 row_at number view index = record { number = number; view = view; index = index }
@@ -25,13 +25,13 @@ unfoldable pub row : Refusal → Row
 row Lengths = row_of RowNumbers.lengths
 row TooManyPoints = row_of RowNumbers.too_many_points
 row Damping = row_of RowNumbers.damping
-row (InverseDeviation i) = row_at RowNumbers.inverse_standard_deviation 0 i
+row (InverseStandardDeviation i) = row_at RowNumbers.inverse_standard_deviation 0 i
 row Baseline = row_of RowNumbers.baseline
 row (Point i) = row_at RowNumbers.point 0 i
 row TooFewPoints = row_of RowNumbers.too_few_points
 row (Observation v i) = row_at RowNumbers.observation (view_number v) i
-row LoneProjection = row_of RowNumbers.projection
-row (Projection v i) = row_at RowNumbers.projection (view_number v) i
+row NotProjectable = row_of RowNumbers.projection
+row (PointNotProjectable v i) = row_at RowNumbers.projection (view_number v) i
 row NotFactored = row_of RowNumbers.not_factored
 row NotSolved = row_of RowNumbers.not_solved
 row WeakCount = row_of RowNumbers.weak_count

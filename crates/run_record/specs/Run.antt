@@ -5,7 +5,7 @@ use Rattle.std.specs.Float.{binary64}
 use Rattle.std.specs.Float.Ieee.{of_bits}
 use Rattle.numerics.specs.Vectors.{tabulate}
 use Rattle.projection.specs.declared.PinholeCamera.{PinholeCamera}
-use Rattle.linearization.specs.declared.views.Pose as Views
+use Rattle.linearization.specs.declared.views.RelativePose.{RelativePose}
 use Rattle.linearization.specs.declared.views.Correspondence.{Correspondence}
 use Rattle.problem.specs.declared.correspondences.Rig.{Rig}
 use Rattle.problem.specs.Problem.{Problem, problem}
@@ -33,11 +33,11 @@ numbers_at p at n = tabulate n (λ j. number_at p (at + 8 * j))
 unfoldable pub camera : List ℕ → PinholeCamera
 camera p = record { fx = number_at p 0; fy = number_at p 8; cx = number_at p 16; cy = number_at p 24; skew = number_at p 32 }
 
-abbrev pub pose : List ℕ → List ℕ → Views.Pose
-pose p b = record { rotation = numbers_at p 0 9; translation = numbers_at p 72 3; basis = numbers_at b 0 6; baseline = number_at b 48 }
+abbrev pub pose : List ℕ → List ℕ → RelativePose
+pose p b = record { rotation = numbers_at p 0 9; translation = numbers_at p 72 3; translation_basis = numbers_at b 0 6; baseline = number_at b 48 }
 
 abbrev pub correspondence : List ℕ → Correspondence
-correspondence p = record { point = numbers_at p 0 3; view1 = numbers_at p 24 2; view2 = numbers_at p 40 2; inverse_deviation = number_at p 56 }
+correspondence p = record { point = numbers_at p 0 3; view1 = numbers_at p 24 2; view2 = numbers_at p 40 2; inverse_standard_deviation = number_at p 56 }
 
 -- ---- the run of a record
 
@@ -66,4 +66,4 @@ run r = first_points r (point_fields r)
 
 -- the numbers of one more point behind those of the others
 unfoldable pub with_point : Problem → Correspondence → Problem
-with_point p c = problem (p.points ++ c.point) (p.view1 ++ c.view1) (p.view2 ++ c.view2) (p.deviations ++ c.inverse_deviation ∷ []) p.rig p.damping
+with_point p c = problem (p.points ++ c.point) (p.view1 ++ c.view1) (p.view2 ++ c.view2) (p.inverse_standard_deviations ++ c.inverse_standard_deviation ∷ []) p.rig p.damping

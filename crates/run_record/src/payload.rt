@@ -4,7 +4,7 @@ ghost use Rattle.std.specs.Prelude.{◌≡◌, ◌≤◌, ◌*◌, ◌+◌, leng
 ghost use Rattle.run_record.specs.Run as Runs;
 
 use crate::fields::NUMBER_SIZE;
-use linearization::views::{Correspondence, Pose};
+use linearization::views::{Correspondence, RelativePose};
 use projection::PinholeCamera;
 use std::array;
 
@@ -52,15 +52,15 @@ pub(crate) fn camera(payload: &[u8]) -> PinholeCamera
 }
 
 // What the pose's field carries and what the basis's does
-pub(crate) fn pose(pose: &[u8], basis: &[u8]) -> Pose
+pub(crate) fn pose(pose: &[u8], basis: &[u8]) -> RelativePose
     requires pose { length pose.now ≡ 96 }
     requires basis { length basis.now ≡ 56 }
     ensures { result ≡ Runs.pose pose.now basis.now }
 {
-    Pose {
+    RelativePose {
         rotation: numbers_at(pose, 0),
         translation: numbers_at(pose, 9 * NUMBER_SIZE),
-        basis: numbers_at(basis, 0),
+        translation_basis: numbers_at(basis, 0),
         baseline: number_at(basis, 6 * NUMBER_SIZE),
     }
 }
@@ -74,6 +74,6 @@ pub(crate) fn correspondence(payload: &[u8]) -> Correspondence
         point: numbers_at(payload, 0),
         view1: numbers_at(payload, 3 * NUMBER_SIZE),
         view2: numbers_at(payload, 5 * NUMBER_SIZE),
-        inverse_deviation: number_at(payload, 7 * NUMBER_SIZE),
+        inverse_standard_deviation: number_at(payload, 7 * NUMBER_SIZE),
     }
 }

@@ -28,7 +28,7 @@ pub struct Run {
     points: [f64; 3 * MAX_POINTS],
     view1: [f64; 2 * MAX_POINTS],
     view2: [f64; 2 * MAX_POINTS],
-    inverse_deviations: [f64; MAX_POINTS],
+    inverse_standard_deviations: [f64; MAX_POINTS],
     count: usize,
     rig: Rig,
     damping: f64,
@@ -41,7 +41,7 @@ impl Model for Run {
     ghost Value = { Problem };
 
     ghost view = { λ a. problem (take (3 * a.count) a.points) (take (2 * a.count) a.view1)
-        (take (2 * a.count) a.view2) (take a.count a.inverse_deviations) a.rig a.damping };
+        (take (2 * a.count) a.view2) (take a.count a.inverse_standard_deviations) a.rig a.damping };
 
     ghost invariant = { λ a. a.count ≤ 512 };
 }
@@ -55,7 +55,7 @@ impl Run {
             points: [0.0; 3 * MAX_POINTS],
             view1: [0.0; 2 * MAX_POINTS],
             view2: [0.0; 2 * MAX_POINTS],
-            inverse_deviations: [0.0; MAX_POINTS],
+            inverse_standard_deviations: [0.0; MAX_POINTS],
             count: 0,
             rig,
             damping,
@@ -65,7 +65,7 @@ impl Run {
     // Puts the numbers of one more point behind those of the others.
     #[tactic(auto, unfolding(crate::specs::Run::with_point))]
     fn push(&mut self, correspondence: Correspondence)
-        requires { length self.old.deviations < 512 }
+        requires { length self.old.inverse_standard_deviations < 512 }
         ensures { self.new ≡ Runs.with_point self.old correspondence }
     {
         let n = self.count;
@@ -73,9 +73,9 @@ impl Run {
         put(&mut self.view1, 2 * n, correspondence.view1);
         put(&mut self.view2, 2 * n, correspondence.view2);
         put(
-            &mut self.inverse_deviations,
+            &mut self.inverse_standard_deviations,
             n,
-            [correspondence.inverse_deviation],
+            [correspondence.inverse_standard_deviation],
         );
         self.count = n + 1;
     }
@@ -89,7 +89,7 @@ impl Run {
             points: &self.points[..3 * n],
             view1: &self.view1[..2 * n],
             view2: &self.view2[..2 * n],
-            inverse_deviations: &self.inverse_deviations[..n],
+            inverse_standard_deviations: &self.inverse_standard_deviations[..n],
             rig: self.rig,
             damping: self.damping,
         }
@@ -132,7 +132,7 @@ fn read_header(reader: &mut Reader) -> Result<Run, Refusal>
     let camera1 = payload::camera(reader.next_field(Field::Camera1)?);
     let camera2 = payload::camera(reader.next_field(Field::Camera2)?);
     let pose = reader.next_field(Field::Pose)?;
-    let basis = reader.next_field(Field::Basis)?;
+    let translation_basis = reader.next_field(Field::Basis)?;
     let damping = reader.next_field(Field::Damping)?;
     let rig = Rig {
         camera1,

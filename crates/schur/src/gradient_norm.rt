@@ -23,30 +23,30 @@ pub(crate) fn point_gradient_norm(gradient: [f64; 3], hessian: [f64; 9]) -> f64
 pub(crate) fn norm<const N: usize>(g: [f64; N], d: [f64; N]) -> f64
     ensures { result ≡ GradientNorm.scaled_gradient_inf_norm N g.entry d.entry }
 {
-    let scale = extrema::largest(d);
-    if !numerics::positive_finite(scale) {
-        return unscaled(g.iter().all(|x| *x == 0.0));
+    let scale = extrema::fold_max(d);
+    if !numerics::is_positive_finite(scale) {
+        return norm_without_scale(g.iter().all(|x| *x == 0.0));
     }
-    let floor = numerics::EPSILON64 * scale;
-    extrema::largest::<N>(array::from_fn(
+    let floor = numerics::RELATIVE_TOLERANCE * scale;
+    extrema::fold_max::<N>(array::from_fn(
         |i|
             requires { i < N }
             ensures { GradientNorm.IsScaledEntry (g ! i) (d ! i) floor result }
-        { scaled(g[i], d[i], floor) },
+        { scaled_entry(g[i], d[i], floor) },
     ))
 }
 
 // Without a scale: 0 for an all-zero gradient, else +∞
 #[tactic(auto, using(crate::proofs::Norms::infinite), unfolding(crate::specs::GradientNorm::norm_without_scale))]
-fn unscaled(all_zero: bool) -> f64
+fn norm_without_scale(all_zero: bool) -> f64
     ensures { result ≡ GradientNorm.norm_without_scale all_zero }
 {
     if all_zero { 0.0 } else { f64::INFINITY }
 }
 
 #[inline(always)]
-fn scaled(value: f64, curvature: f64, floor: f64) -> f64
+fn scaled_entry(value: f64, curvature: f64, floor: f64) -> f64
     ensures { GradientNorm.IsScaledEntry value curvature floor result }
 {
-    numerics::abs(value) / root::sqrt(extrema::larger(floor, curvature))
+    numerics::abs(value) / root::sqrt(extrema::max_nonnegative(floor, curvature))
 }

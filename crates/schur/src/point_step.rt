@@ -50,17 +50,17 @@ pub fn damped_step(
     ensures outcome { outcome Steps.zero_point_step result
         ≡ outcome Steps.zero_point_step (Steps.damped_step terms damping pose_step) }
 {
-    let factor = PointBlockFactor::factor(terms.point_hessian, damping)?;
-    Ok(stepped(factor, terms, pose_step))
+    let factor = PointBlockFactor::new(terms.point_hessian, damping)?;
+    Ok(step_by_inverse(factor, terms, pose_step))
 }
 
 #[tactic(auto, unfolding(crate::specs::PointStep::step_by_inverse))]
 #[inline(always)]
-fn stepped(factor: PointBlockFactor, terms: PointTerms, pose_step: [f64; 5]) -> PointStep
+fn step_by_inverse(factor: PointBlockFactor, terms: PointTerms, pose_step: [f64; 5]) -> PointStep
     ensures { result ≡ Steps.step_by_inverse factor.inverse terms pose_step }
 {
     let step = step_of(factor, terms, pose_step);
-    let diagonal = point_damping::floored_diagonal(terms.point_hessian);
+    let diagonal = point_damping::damping_diagonal_of(terms.point_hessian);
     PointStep {
         step,
         damping_norm: damping_norm(diagonal, step),

@@ -32,7 +32,7 @@ pub fn solve_positive_definite(a: [f64; 25], b: [f64; 5]) -> Result<[f64; 5], Re
     let x = solution(lower.entries, b);
     let good = vectors::all_finite(&a)
         & vectors::all_finite(&b)
-        & good_sums(lower.sums)
+        & has_valid_sums(lower.sums)
         & vectors::all_finite(&x);
     if good { Ok(x) } else { Err(Refusal::NotSolved) }
 }
@@ -72,7 +72,7 @@ fn products(l: &[f64; 25], i: usize, j: usize) -> f64
 
 // Whether every sum is finite and every pivot is above 0
 #[tactic(auto, unfolding(crate::specs::Solver::has_valid_sums))]
-fn good_sums(sums: [f64; 25]) -> bool
+fn has_valid_sums(sums: [f64; 25]) -> bool
     ensures { result ≡ Solver.has_valid_sums sums }
 {
     vectors::all_finite(&sums)

@@ -8,6 +8,6 @@ use Rattle.projection.proofs.all_finite.Goals as goal
 pub returns : goal.returns
 unfolding all_finite
 returns c =
-    let r = c.args.projected.residual in
-    let j = c.args.projected.jacobian in
+    let r = c.args.projection.residual in
+    let j = c.args.projection.jacobian in
     product_tells binary64 (r ! 0 ∷ r ! 1 ∷ j ! 0 ∷ j ! 1 ∷ j ! 2 ∷ j ! 3 ∷ j ! 4 ∷ j ! 5 ∷ [])

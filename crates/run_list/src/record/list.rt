@@ -106,5 +106,5 @@ fn letter_of(point: ProblemPoint, damping: ValidDamping) -> u8
         (Assembly.block_at (Problems.of point.entry.fitting.problem.now) point.entry.index) damping }
 {
     let block = linearization::block_of(&point.fitting.problem.rig, point.correspondence());
-    letters::letter(block, damping)
+    letters::letter_of(block, damping)
 }

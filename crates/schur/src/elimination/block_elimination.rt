@@ -27,13 +27,13 @@ pub(crate) fn eliminate(
     ensures system { system.new ≡ BlockElimination.with_equations system.old
         (BlockElimination.elimination_of system.old local damping) }
 {
-    match PointBlockFactor::factor(local.point_hessian, damping) {
+    match PointBlockFactor::new(local.point_hessian, damping) {
         Ok(factor) => {
-            eliminated(system, local, damping, factor);
+            take_in_factored(system, local, damping, factor);
             true
         }
         Err(_) => {
-            not_eliminated(system, damping.is_zero());
+            take_in_unfactored(system, damping.is_zero());
             false
         }
     }
@@ -42,7 +42,7 @@ pub(crate) fn eliminate(
 // A block that factors
 #[tactic(auto, unfolding(crate::specs::BlockElimination::after_elimination))]
 #[inline(always)]
-fn eliminated(
+fn take_in_factored(
     system: &mut ReducedSystem,
     local: LocalLinearization,
     damping: ValidDamping,
@@ -69,7 +69,7 @@ fn eliminated(
 // A block that does not factor: at damping zero it is weak with an rcond of 0.
 #[tactic(auto, unfolding(crate::specs::BlockElimination::unfactored))]
 #[inline(always)]
-fn not_eliminated(system: &mut ReducedSystem, at_zero: bool)
+fn take_in_unfactored(system: &mut ReducedSystem, at_zero: bool)
     requires { system.old.weak_point_count < ReducedAdd.max_blocks }
     ensures { system.new ≡ BlockElimination.with_equations system.old
         (BlockElimination.unfactored system.old at_zero) }

@@ -14,7 +14,7 @@ use std::array;
 fn pose_floor(d: [f64; 5]) -> f64
     ensures { result ≡ PoseDamping.pose_floor d }
 {
-    numerics::EPSILON64 * extrema::max(extrema::largest(d), numerics::MIN_POSITIVE)
+    numerics::RELATIVE_TOLERANCE * extrema::max(extrema::fold_max(d), numerics::MIN_POSITIVE)
 }
 
 // The pose diagonal, each entry at least the floor

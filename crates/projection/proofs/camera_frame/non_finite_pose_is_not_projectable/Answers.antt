@@ -1,4 +1,4 @@
-use Rattle.projection.proofs.Pose.{not_projectable}
+use Rattle.projection.proofs.CameraFrameLaws.{not_projectable}
 use Rattle.projection.proofs.camera_frame.non_finite_pose_is_not_projectable.Goals as goal
 
 pub returns : goal.returns

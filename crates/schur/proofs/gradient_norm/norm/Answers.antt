@@ -12,21 +12,21 @@ use Rattle.schur.specs.GradientNorm.{scaled_entry, IsScaledEntry}
 use Rattle.schur.proofs.Norms.{norm_unscaled, norm_scaled}
 use Rattle.schur.proofs.gradient_norm.norm.Goals as goal
 
-pub returns-then-not-positive_finite : goal.returns-then-not-positive_finite
+pub returns-then-not-is_positive_finite : goal.returns-then-not-is_positive_finite
 unfolding all_zero
-returns-then-not-positive_finite g c =
+returns-then-not-is_positive_finite g c =
     let a = c.args in
     let zeros = all_from_yields_List (λ x. eq x zero) _ _ c.all.result c.all.ensures.ran (YieldsList-from_slice a.g cc) (λ x b q k. search (rules, tests))
     ∙ same_from_clauses (list_all (λ x. eq x zero)) all_zero (λ x b. eq x zero && b) refl (λ x xs. refl) (λ x xs. refl) a.g in
-    norm_unscaled g.row.N a.g a.d (search rules) (search rules) _ c.largest-scale.ensures _ _ (sym c.positive_finite.ensures ∙ c.if-not-positive_finite.true) zeros c.unscaled.ensures
+    norm_unscaled g.row.N a.g a.d (search rules) (search rules) _ c.fold_max-scale.ensures _ _ (sym c.is_positive_finite.ensures ∙ c.if-not-is_positive_finite.true) zeros c.unscaled.ensures
 
 pub returns : goal.returns
 returns g c =
     let a = c.args in
-    let s = c.largest-scale.result in
+    let s = c.fold_max-scale.result in
     let n = g.row.N in
     let long : length a.g ≡ n = search rules in
     let wide : length a.d ≡ n = search rules in
-    let clear = floor_clear a.d s c.largest-scale.ensures in
+    let clear = floor_clear a.d s c.fold_max-scale.ensures in
     let made = from_fn_tabulates _ (λ i. scaled_entry (a.g ! i) (a.d ! i) (relative_tolerance ⊗ s)) (λ i y q k. let h : (q ≡ _) × IsScaledEntry (a.g ! i) (a.d ! i) (relative_tolerance ⊗ s) y = search rules in (h.0, h.1.is clear)) n c.from_fn.ensures.items in
-    norm_scaled n a.g a.d long wide s c.largest-scale.ensures _ _ (sym c.positive_finite.ensures ∙ c.if-not-positive_finite.false) made c.largest.ensures
+    norm_scaled n a.g a.d long wide s c.fold_max-scale.ensures _ _ (sym c.is_positive_finite.ensures ∙ c.if-not-is_positive_finite.false) made c.fold_max.ensures

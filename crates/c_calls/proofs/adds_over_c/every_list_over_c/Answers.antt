@@ -1,5 +1,5 @@
 use Rattle.c_calls.proofs.ListsOverC.{every_list}
-use Rattle.c_calls.proofs.flat_lists.every_list_over_c.Goals as goal
+use Rattle.c_calls.proofs.adds_over_c.every_list_over_c.Goals as goal
 
 -- src/flat_lists.rt:7:1
 pub returns : goal.returns

@@ -9,7 +9,7 @@ use lib.Dec.{T}
 use lib.Ieee.{Float, binary64}
 use lib.Ieee.Bits.{is_true}
 use Rattle.std.specs.Prelude.{Err}
-use Rattle.refusal.specs.declared.Refusal.TheVariants.{LoneProjection}
+use Rattle.refusal.specs.declared.Refusal.TheVariants.{NotProjectable}
 use Rattle.numerics.specs.Binary64.{◌⊕◌, ◌⊗◌}
 use Rattle.numerics.specs.Classify.{is_finite}
 use Rattle.numerics.specs.Vectors.{◌!◌}
@@ -75,10 +75,10 @@ module _ (rotation translation point : List Float) where
 
   -- where being in front would make x finite and it is not, nothing is projected
   refused : (x : Float) → (T (is_in_front moved) → T (is_finite x)) → is_finite x ≡ false → (camera : PinholeCamera) (observation : List Float)
-      → pixel_projection camera observation moved ≡ Err LoneProjection
+      → pixel_projection camera observation moved ≡ Err NotProjectable
   refused x k n camera observation = by (is_in_front moved) refl k
     where
-      by : (b : Bool) → is_in_front moved ≡ b → (T b → T (is_finite x)) → pixel_projection camera observation moved ≡ Err LoneProjection
+      by : (b : Bool) → is_in_front moved ≡ b → (T b → T (is_finite x)) → pixel_projection camera observation moved ≡ Err NotProjectable
       by true e k = absurd (true≢false (sym (is_true (is_finite x) (k tt)) ∙ n))
       by false e k = behind camera observation moved e
 

@@ -3,7 +3,7 @@ use borrow.Author.Rules.{rules}
 use lib.ListN.{length}
 use Rattle.c_calls.specs.LayoutNumbers.{block_numbers}
 use Rattle.c_calls.proofs.Writing.{put_none, put_next, put_last}
-use Rattle.c_calls.proofs.flat.numbers.block_numbers.Goals as goal
+use Rattle.c_calls.proofs.layout.numbers.block_numbers.Goals as goal
 
 pub returns : goal.returns
 unfolding block_numbers

@@ -7,7 +7,7 @@ ghost use Rattle.c_calls.specs.Layout as Layout;
 
 use crate::slices;
 use linearization::LocalLinearization;
-use linearization::views::{Correspondence, Pose, Rig};
+use linearization::views::{Correspondence, RelativePose, Rig};
 use projection::PinholeCamera;
 use schur::reduced_system::ReducedSystem;
 
@@ -32,10 +32,10 @@ pub(crate) fn rig(x: &[f64]) -> Rig
     Rig {
         camera1: camera(slices::part(x, 0)),
         camera2: camera(slices::part(x, 5)),
-        pose: Pose {
+        pose: RelativePose {
             rotation: slices::part(x, 10),
             translation: slices::part(x, 19),
-            basis: slices::part(x, 22),
+            translation_basis: slices::part(x, 22),
             baseline: x[28],
         },
     }
@@ -50,7 +50,7 @@ pub(crate) fn correspondence(x: &[f64]) -> Correspondence
         point: slices::part(x, 0),
         view1: slices::part(x, 3),
         view2: slices::part(x, 5),
-        inverse_deviation: x[7],
+        inverse_standard_deviation: x[7],
     }
 }
 

@@ -27,7 +27,10 @@ pub(crate) fn lengths() -> u64
 
 // Stores the values where nothing was refused, and answers 0 or the refusal's code.
 #[tactic(auto, unfolding(crate::specs::Outcomes::code))]
-pub(crate) fn answer<const N: usize>(answered: Result<[f64; N], Refusal>, out: &mut [f64]) -> u64
+pub(crate) fn store_result<const N: usize>(
+    answered: Result<[f64; N], Refusal>,
+    out: &mut [f64],
+) -> u64
     requires { length out.old ≡ N }
     ensures { Outcomes.HasOutcome result out.new (Outcome.outcome out.old answered.entry) }
 {

@@ -3,7 +3,7 @@ use Rattle.std.proofs.Common.{rules}
 use Rattle.numerics.specs.Binary64.{◌⊗◌}
 use Rattle.numerics.specs.Vectors.{◌!◌}
 use Rattle.numerics.proofs.FromFn.{from_fn_tabulates}
-use Rattle.linearization.proofs.views.weigh.Goals as goal
+use Rattle.linearization.proofs.views.weighted_entries.Goals as goal
 
 pub returns : goal.returns
 returns g c =

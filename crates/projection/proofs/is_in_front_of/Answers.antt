@@ -1,7 +1,7 @@
 use mathlib.Core.Path.{sym}
 use Rattle.projection.specs.PixelProjection.{is_in_front}
 use Rattle.projection.proofs.Front.{front_by_comparisons}
-use Rattle.projection.proofs.in_front_of.Goals as goal
+use Rattle.projection.proofs.is_in_front_of.Goals as goal
 
 pub returns : goal.returns
 unfolding is_in_front

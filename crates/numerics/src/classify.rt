@@ -4,7 +4,7 @@ ghost use Rattle.numerics.specs.Binary64 as Binary64;
 ghost use Rattle.numerics.specs.Classify as Classify;
 
 /// `f64::abs`: the sign is cleared, of a zero too.
-#[tactic(auto, using(crate::proofs::Differences::abs_above, crate::proofs::Differences::abs_rest))]
+#[tactic(auto, using(crate::proofs::AbsLaws::abs_above, crate::proofs::AbsLaws::abs_rest))]
 pub fn abs(x: f64) -> f64
     ensures { result ≡ Classify.abs x }
 {
@@ -14,7 +14,7 @@ pub fn abs(x: f64) -> f64
 }
 
 /// `f64::is_finite`.
-#[tactic(auto, using(crate::proofs::Differences::library_is_finite))]
+#[tactic(auto, using(crate::proofs::AbsLaws::library_is_finite))]
 pub fn is_finite(x: f64) -> bool
     ensures { result ≡ Classify.is_finite x }
 {
@@ -22,7 +22,7 @@ pub fn is_finite(x: f64) -> bool
 }
 
 /// Whether x is finite and above 0.
-pub fn positive_finite(x: f64) -> bool
+pub fn is_positive_finite(x: f64) -> bool
     ensures { result ≡ Classify.is_positive_finite x }
 {
     is_finite(x) & (0.0 < x)

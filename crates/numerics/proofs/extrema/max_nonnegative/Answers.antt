@@ -4,7 +4,7 @@ use lib.Dec.{T}
 use lib.Ieee.{Float, binary64, fits}
 use Rattle.numerics.specs.Extrema.{MaxNonnegative, max_nonnegative}
 use Rattle.numerics.proofs.Laws.{larger_is}
-use Rattle.numerics.proofs.extrema.larger.Goals as goal
+use Rattle.numerics.proofs.extrema.max_nonnegative.Goals as goal
 
 -- what `larger` gives, for values that the format holds
 meets : (low x : Float) → fits binary64 low ≡ true → fits binary64 x ≡ true → MaxNonnegative low x (max_nonnegative low x)

@@ -3,7 +3,7 @@ use Rattle.std.proofs.lemmas.Fn.{fold_over, fronts, slice_gives}
 use Rattle.numerics.specs.Binary64.{zero}
 use Rattle.numerics.specs.Extrema.{MaxNonnegative, fold_max}
 use Rattle.numerics.proofs.Laws.{Found, found_none, found_more}
-use Rattle.numerics.proofs.extrema.largest.Goals as goal
+use Rattle.numerics.proofs.extrema.fold_max.Goals as goal
 
 pub returns : goal.returns
 returns g c =
