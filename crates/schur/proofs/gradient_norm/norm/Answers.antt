@@ -18,7 +18,7 @@ returns-then-not-is_positive_finite g c =
     let a = c.args in
     let zeros = all_from_yields_List (λ x. eq x zero) _ _ c.all.result c.all.ensures.ran (YieldsList-from_slice a.g cc) (λ x b q k. search (rules, tests))
     ∙ same_from_clauses (list_all (λ x. eq x zero)) all_zero (λ x b. eq x zero && b) refl (λ x xs. refl) (λ x xs. refl) a.g in
-    norm_unscaled g.row.N a.g a.d (search rules) (search rules) _ c.fold_max-scale.ensures _ _ (sym c.is_positive_finite.ensures ∙ c.if-not-is_positive_finite.true) zeros c.unscaled.ensures
+    norm_unscaled g.row.N a.g a.d (search rules) (search rules) _ c.fold_max-scale.ensures _ _ (sym c.is_positive_finite.ensures ∙ c.if-not-is_positive_finite.true) zeros c.norm_without_scale.ensures
 
 pub returns : goal.returns
 returns g c =
