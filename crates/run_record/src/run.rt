@@ -137,7 +137,7 @@ fn read_header(reader: &mut Reader) -> Result<Run, Refusal>
     let rig = Rig {
         camera1,
         camera2,
-        pose: payload::pose(pose, basis),
+        pose: payload::pose(pose, translation_basis),
     };
     Ok(Run::new(rig, payload::number_at(damping, 0)))
 }

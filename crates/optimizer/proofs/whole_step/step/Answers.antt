@@ -43,4 +43,4 @@ returns c =
     let passed = sym c.checked.ensures ∙ c.in_ok-checked.was in
     let tested = in_turn p _ _ (sym c.new.ensures ∙ c.in_ok-readable.was) passed in
     let system = damped_sums _ _ _ _ _ passed c.add_blocks-accepted.ensures.system c.damping.ensures c.damp.ensures in
-    solved p _ c.if-room-problem.false _ tested _ system (sym c.is_valid.ensures ∙ c.if-not-is_valid.false) _ _ _ _ _ (sym c.solve_positive_definite.ensures.result ∙ c.in_ok-x.was) c.pose_step-pose_step.ensures c.write_steps-sums.ensures.sums c.write_steps-sums.ensures.room c.of.ensures
+    solved p _ c.if-room-problem.false _ tested _ system (sym c.is_valid.ensures ∙ c.if-not-is_valid.false) _ _ _ _ _ (sym c.solve_positive_definite.ensures.result ∙ c.in_ok-x.was) c.negated_limited_step-pose_step.ensures c.write_steps-sums.ensures.sums c.write_steps-sums.ensures.room c.of.ensures
