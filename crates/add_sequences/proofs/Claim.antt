@@ -49,14 +49,14 @@ add_bad : (s : ReducedSystem) (b : LocalLinearization) (x : Float) → is_valid_
 unfolding add
 add_bad s b x h = rw h refl
 
-module _ (d : Float) (good : T (is_valid_damping d)) where
+module _ (d : Float) (good : is_valid_damping d ≡ true) where
   add_taken : (s : ReducedSystem) (b : LocalLinearization) → Counts s → has_room s.block_count ≡ true → add s b d ≡ Ok (with_block s b d)
   unfolding add
-  add_taken s b c e = rw (is_true (is_valid_damping d) good, tested s c, e) refl
+  add_taken s b c e = rw (good, tested s c, e) refl
 
   add_full : (s : ReducedSystem) (b : LocalLinearization) → Counts s → has_room s.block_count ≡ false → add s b d ≡ Err Full
   unfolding add
-  add_full s b c e = rw (is_true (is_valid_damping d) good, tested s c, e) refl
+  add_full s b c e = rw (good, tested s c, e) refl
 
   -- ---- a block taken in: whether it factors is the lone factor's answer
 
@@ -77,7 +77,7 @@ module _ (d : Float) (good : T (is_valid_damping d)) where
 
   same_rcond : (b : LocalLinearization) → factors d b ≡ true → is_weak (reciprocal_condition_number (inverse b) b.point_hessian) ≡ is_ill_conditioned d b
   unfolding factor_with_rcond is_ill_conditioned
-  same_rcond b e = rw (is_true (is_valid_damping d) good) (by (factor b.point_hessian d) (same_factor b ∙ e))
+  same_rcond b e = rw good (by (factor b.point_hessian d) (same_factor b ∙ e))
     where
       by : (f : Result PointBlockFactor Refusal) → is_ok f ≡ true
           → is_weak (reciprocal_condition_number (inverse_in f) b.point_hessian) ≡ le (elim (lone_of b f) [ Ok g ↦ g.rcond | Err r ↦ zero ]) point_block_rcond_threshold
@@ -152,7 +152,7 @@ module _ (d : Float) (good : T (is_valid_damping d)) where
   further_refl s k = record {
     cost = le_refl s.cost (nonneg_not_nan s.cost k.cost);
     squared = le_refl s.squared_residual (nonneg_not_nan s.squared_residual k.squared);
-    weak = le→leb s.weak_point_count s.weak_point_count (omega arith);
+    weak = omega arith;
     rcond = le_refl s.minimum_point_rcond (nonneg_not_nan s.minimum_point_rcond k.rcond);
     flag = λ h. h;
   }
@@ -161,8 +161,7 @@ module _ (d : Float) (good : T (is_valid_damping d)) where
   further_trans s t u f g = record {
     cost = le_trans s.cost t.cost u.cost f.cost g.cost;
     squared = le_trans s.squared_residual t.squared_residual u.squared_residual f.squared g.squared;
-    weak = le→leb s.weak_point_count u.weak_point_count
-        (le-trans· (leb→le s.weak_point_count t.weak_point_count f.weak) (leb→le t.weak_point_count u.weak_point_count g.weak));
+    weak = le-trans· f.weak g.weak;
     rcond = le_trans u.minimum_point_rcond t.minimum_point_rcond s.minimum_point_rcond g.rcond f.rcond;
     flag = λ h. g.flag (f.flag h);
   }
@@ -207,9 +206,9 @@ module _ (d : Float) (good : T (is_valid_damping d)) where
       flag = λ h. valid_taken s b ∙ ap (λ (x : Bool). x && factors d b) h;
     }
       where
-        by : (x : Bool) → T (leb s.weak_point_count (count_if x s.weak_point_count))
-        by true = le→leb s.weak_point_count (suc s.weak_point_count) (omega arith)
-        by false = le→leb s.weak_point_count s.weak_point_count (omega arith)
+        by : (x : Bool) → s.weak_point_count ≤ count_if x s.weak_point_count
+        by true = omega arith
+        by false = omega arith
 
   -- ---- the calls, one by one
 

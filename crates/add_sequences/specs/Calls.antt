@@ -1,5 +1,5 @@
 -- Calls of `add`, one after the other, and the tally of them.
-use Rattle.std.specs.Prelude.{ℕ, suc, ◌≡◌, Bool, true, false, not, ◌&&◌, ◌||◌, cond, List, [], ◌∷◌, ltb, Float, Result, Ok, Err, Option, Some, None, is_ok}
+use Rattle.std.specs.Prelude.{ℕ, suc, ◌≡◌, Bool, true, false, not, ◌&&◌, ◌||◌, if◌then◌else◌, List, [], ◌∷◌, nat_lt, Float, Result, Ok, Err, Option, Some, None, is_ok}
 use Rattle.std.specs.Float.Ieee.{le, eq}
 use Rattle.numerics.specs.Binary64.{zero, point_block_rcond_threshold}
 use Rattle.refusal.specs.declared.Refusal.{Refusal}
@@ -75,14 +75,14 @@ is_ill_conditioned d b = le (elim (factor_with_rcond b.point_hessian d) [ Ok f �
 
 -- room for one more block
 abbrev pub has_room : ℕ → Bool
-has_room blocks = ltb blocks max_blocks
+has_room blocks = nat_lt blocks max_blocks
 
 -- either zero
 abbrev pub at_zero : Float → Bool
 at_zero d = eq d zero
 
 abbrev pub one_more : Bool → ℕ → ℕ
-one_more b n = cond b (suc n) n
+one_more b n = if b then suc n else n
 
 abbrev pub count_block : Float → Counters → LocalLinearization → Counters
 count_block d t b = record {
@@ -92,7 +92,7 @@ count_block d t b = record {
 }
 
 abbrev pub count_call : Float → Counters → Call → Counters
-count_call d t (Add i) = cond (has_room t.blocks) (count_block d t (linearization_of i)) t
+count_call d t (Add i) = if has_room t.blocks then count_block d t (linearization_of i) else t
 count_call d t (RefusedAdd i x h) = t
 
 abbrev pub count_calls : Float → Counters → List Call → Counters
@@ -100,7 +100,7 @@ count_calls d t [] = t
 count_calls d t (c ∷ cs) = count_calls d (count_call d t c) cs
 
 abbrev pub refusal_of : Counters → Call → Option Refusal
-refusal_of t (Add i) = cond (has_room t.blocks) None (Some Full)
+refusal_of t (Add i) = if has_room t.blocks then None else Some Full
 refusal_of t (RefusedAdd i x h) = Some Damping
 
 abbrev pub refusals_of : Float → Counters → List Call → List (Option Refusal)
@@ -111,7 +111,7 @@ refusals_of d t (c ∷ cs) = refusal_of t c ∷ refusals_of d (count_call d t c)
 
 abbrev pub blocks_taken_in : ℕ → List Call → List LocalLinearization
 blocks_taken_in n [] = []
-blocks_taken_in n (Add i ∷ cs) = cond (has_room n) (linearization_of i ∷ blocks_taken_in (suc n) cs) (blocks_taken_in n cs)
+blocks_taken_in n (Add i ∷ cs) = if has_room n then linearization_of i ∷ blocks_taken_in (suc n) cs else blocks_taken_in n cs
 blocks_taken_in n (RefusedAdd i x h ∷ cs) = blocks_taken_in n cs
 
 abbrev pub all : (LocalLinearization → Bool) → List LocalLinearization → Bool
@@ -120,4 +120,4 @@ all p (b ∷ bs) = p b && all p bs
 
 abbrev pub filter : (LocalLinearization → Bool) → List LocalLinearization → List LocalLinearization
 filter p [] = []
-filter p (b ∷ bs) = cond (p b) (b ∷ filter p bs) (filter p bs)
+filter p (b ∷ bs) = if p b then b ∷ filter p bs else filter p bs

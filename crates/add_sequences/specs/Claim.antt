@@ -1,8 +1,8 @@
 -- What holds of every list of calls of `add` from a new system, at a damping that is let through.
 -- One record, with a field for each sentence.
-use Rattle.std.specs.Prelude.{ℕ, ◌+◌, ◌≡◌, true, false, not, ◌&&◌, List, [], ◌∷◌, ◌++◌, map, fold, T, leb, length, Float, Result}
+use Rattle.std.specs.Prelude.{ℕ, ◌+◌, ◌≡◌, true, false, not, ◌&&◌, List, [], ◌∷◌, ◌++◌, map, fold, IsTrue, ◌≤◌, length, Float, Result}
 use Rattle.std.specs.Result.{result_err}
-use Rattle.std.specs.Float.Ieee.{le}
+use Rattle.std.specs.Float.{◌≤ᶠ◌}
 use Rattle.numerics.specs.Binary64.{◌⊕◌}
 use Rattle.numerics.specs.Extrema.{max}
 use Rattle.refusal.specs.declared.Refusal.{Refusal}
@@ -61,10 +61,10 @@ pub record WeakCount (d : Float) (weak : ℕ) (blocks : List LocalLinearization)
   pub damped : at_zero d ≡ false → weak ≡ 0
 
 pub record IsMonotone (s t : ReducedSystem) : Type 0 where
-  pub cost : T (le s.cost t.cost)
-  pub squared : T (le s.squared_residual t.squared_residual)
-  pub weak : T (leb s.weak_point_count t.weak_point_count)
-  pub rcond : T (le t.minimum_point_rcond s.minimum_point_rcond)
+  pub cost : s.cost ≤ᶠ t.cost
+  pub squared : s.squared_residual ≤ᶠ t.squared_residual
+  pub weak : s.weak_point_count ≤ t.weak_point_count
+  pub rcond : t.minimum_point_rcond ≤ᶠ s.minimum_point_rcond
   pub flag : s.valid ≡ false → t.valid ≡ false
 
 pub record Claim (d : Float) (calls : List Call) : Type 0 where
@@ -79,4 +79,4 @@ pub record Claim (d : Float) (calls : List Call) : Type 0 where
 
 -- every list of calls of `add`, at every damping that is let through
 abbrev pub EveryListOfAdds : Type 0
-EveryListOfAdds = (d : Float) → T (is_valid_damping d) → (calls : List Call) → Claim d calls
+EveryListOfAdds = (d : Float) → IsTrue (is_valid_damping d) → (calls : List Call) → Claim d calls

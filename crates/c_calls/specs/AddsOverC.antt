@@ -1,6 +1,6 @@
 -- A list of adds over the C interface, each on the memory that the one before left: what stands
 -- there after them, and the numbers that come back.
-use Rattle.std.specs.Prelude.{ℕ, ◌≡◌, List, [], ◌∷◌, map, T, length, Float, Result}
+use Rattle.std.specs.Prelude.{ℕ, ◌≡◌, List, [], ◌∷◌, map, IsTrue, length, Float, Result}
 use Rattle.refusal.specs.Outcome.{Outcome, outcome}
 use Rattle.refusal.specs.declared.Refusal.{Refusal}
 use Rattle.point_block.specs.Damping.{is_valid_damping}
@@ -42,7 +42,7 @@ pub record Reaches (d : Float) (calls : List Call) (begun : Outcome SystemMemory
   -- what any further call on that memory works on
   pub read : system (memory_after_calls d begun.values calls).numbers (memory_after_calls d begun.values calls).counts ≡ system_after_calls d new_system calls
   -- the counts are those of the tally
-  pub counts : T (is_valid_damping d) → (memory_after_calls d begun.values calls).counts ≡ counter_numbers (count_calls d zero_counters calls)
+  pub counts : IsTrue (is_valid_damping d) → (memory_after_calls d begun.values calls).counts ≡ counter_numbers (count_calls d zero_counters calls)
 
 -- every list of calls, on any memory of the right lengths
 abbrev pub EveryListOverC : Type 0

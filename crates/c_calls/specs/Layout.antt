@@ -1,5 +1,5 @@
 -- The structs of the calls, from flat lists of numbers.
-use Rattle.std.specs.Prelude.{ℕ, not, List, eqb, get_or, Float}
+use Rattle.std.specs.Prelude.{ℕ, not, List, ◌==◌, get_or, Float}
 use Rattle.numerics.specs.Vectors.{◌!◌}
 use Rattle.c_calls.specs.Slices.{part}
 use Rattle.projection.specs.declared.PinholeCamera.{PinholeCamera}
@@ -46,6 +46,6 @@ system x counts = record {
   scaled_point_gradient_inf_norm = x ! 43;
   weak_point_count = get_or counts 0 0;
   minimum_point_rcond = x ! 44;
-  valid = not (eqb (get_or counts 2 0) 0);
+  valid = not ((get_or counts 2 0) == 0);
   block_count = get_or counts 1 0;
 }

@@ -1,5 +1,5 @@
 -- The structs of the calls as flat lists of numbers, in the order in which `flat` reads them.
-use Rattle.std.specs.Prelude.{ℕ, Bool, cond, List, [], ◌∷◌, ◌++◌, Float}
+use Rattle.std.specs.Prelude.{ℕ, Bool, if◌then◌else◌, List, [], ◌∷◌, ◌++◌, Float}
 use Rattle.linearization.specs.declared.linearize.LocalLinearization.{LocalLinearization}
 use Rattle.schur.specs.declared.reduced_system.ReducedSystem.{ReducedSystem}
 
@@ -12,7 +12,7 @@ system_numbers s =
     s.hessian ++ s.gradient ++ (s.cost ∷ s.squared_residual ∷ []) ++ s.full_pose_gradient ++ s.pose_diagonal ++ (s.point_model_reduction ∷ s.scaled_point_gradient_inf_norm ∷ s.minimum_point_rcond ∷ [])
 
 abbrev pub flag : Bool → ℕ
-flag b = cond b 1 0
+flag b = if b then 1 else 0
 
 unfoldable pub system_counts : ReducedSystem → List ℕ
 system_counts s = s.weak_point_count ∷ s.block_count ∷ flag s.valid ∷ []

@@ -1,9 +1,9 @@
 -- What the calls on matrices answer, and what the memory that they may write holds afterwards. A
 -- matrix is given row by row, an inverse is packed.
-use Rattle.std.specs.Prelude.{◌&&◌, cond, List, [], ◌∷◌, Float, Ok, Err}
+use Rattle.std.specs.Prelude.{◌&&◌, if◌then◌else◌, List, [], ◌∷◌, Float, Ok, Err}
 use Rattle.numerics.specs.Vectors.{◌!◌}
 use Rattle.refusal.specs.Outcome.{Outcome, outcome}
-use Rattle.refusal.specs.RefusalRow.{map_ok}
+use Rattle.refusal.specs.Chain.{map_ok}
 use Rattle.refusal.specs.declared.Refusal.TheVariants.{Damping}
 use Rattle.point_block.specs.declared.PointBlockFactor.{PointBlockFactor}
 use Rattle.point_block.specs.Damping as PointDamping
@@ -26,7 +26,7 @@ damping_diagonal matrix out = outcome out (if_lengths_fit (has_length matrix 9 &
 -- row 3, then the matrix's own refusal
 unfoldable pub damped_matrix : List Float → Float → List Float → Outcome (List Float)
 damped_matrix matrix damping out =
-    outcome out (if_lengths_fit (has_length matrix 9 && has_length out 9) (cond (PointDamping.is_valid_damping damping) (PointDamping.damped_matrix matrix damping) (Err Damping)))
+    outcome out (if_lengths_fit (has_length matrix 9 && has_length out 9) (if PointDamping.is_valid_damping damping then PointDamping.damped_matrix matrix damping else Err Damping))
 
 unfoldable pub factor_damped : List Float → List Float → Outcome (List Float)
 factor_damped matrix out = outcome out (if_lengths_fit (has_length matrix 9 && has_length out 6) (map_ok (λ (f : PointBlockFactor). f.inverse) (Factor.factor_damped matrix)))

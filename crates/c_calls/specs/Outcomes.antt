@@ -1,5 +1,5 @@
 -- What a call of the C interface answers: its `answer`, with the numbers of a refusal as one.
-use Rattle.std.specs.Prelude.{ℕ, ◌+◌, ◌*◌, ◌≡◌, Bool, cond, List, eqb, length, Result, Err}
+use Rattle.std.specs.Prelude.{ℕ, ◌+◌, ◌*◌, ◌≡◌, Bool, if◌then◌else◌, List, ◌==◌, length, Result, Err}
 use Rattle.refusal.specs.Outcome.{Outcome}
 use Rattle.refusal.specs.declared.Row.{Row}
 use Rattle.refusal.specs.declared.Refusal.{Refusal}
@@ -17,7 +17,7 @@ pub record HasOutcome {A : Type 0} (number : ℕ) (out : A) (a : Outcome A) : Ty
 
 -- row 1 where the lengths do not fit, and else the call's own refusal or result
 abbrev pub if_lengths_fit : {A : Type 0} → Bool → Result A Refusal → Result A Refusal
-if_lengths_fit fits r = cond fits r (Err Lengths)
+if_lengths_fit fits r = if fits then r else Err Lengths
 
 abbrev pub has_length : {A : Type 0} → List A → ℕ → Bool
-has_length l n = eqb (length l) n
+has_length l n = (length l) == n

@@ -2,7 +2,7 @@
 use Rattle.std.specs.Prelude.{◌&&◌, List, [], ◌∷◌, Float}
 use Rattle.numerics.specs.Vectors.{◌!◌}
 use Rattle.refusal.specs.Outcome.{Outcome, outcome}
-use Rattle.refusal.specs.RefusalRow.{map_ok}
+use Rattle.refusal.specs.Chain.{map_ok}
 use Rattle.projection.specs.PixelProjection as PixelProjection
 use Rattle.linearization.specs.Linearize as Linearize
 use Rattle.schur.specs.PointStep as PointStep

@@ -2,7 +2,7 @@
 -- they may write holds afterwards.
 use Rattle.std.specs.Prelude.{ℕ, ◌≡◌, ◌&&◌, List, [], ◌∷◌, length, Float, Ok}
 use Rattle.refusal.specs.Outcome.{Outcome, outcome}
-use Rattle.refusal.specs.RefusalRow.{map_ok}
+use Rattle.refusal.specs.Chain.{map_ok}
 use Rattle.problem.specs.Problem.{Problem}
 use Rattle.optimizer.specs.PoseStep as PoseStep
 use Rattle.optimizer.specs.Step as Step

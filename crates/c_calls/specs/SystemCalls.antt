@@ -2,7 +2,7 @@
 -- numbers, and the weak count, the block count and the flag.
 use Rattle.std.specs.Prelude.{ℕ, ◌≡◌, ◌&&◌, List, [], ◌∷◌, Float, Result, Ok}
 use Rattle.refusal.specs.Outcome.{Outcome, outcome}
-use Rattle.refusal.specs.RefusalRow.{map_ok}
+use Rattle.refusal.specs.Chain.{map_ok}
 use Rattle.refusal.specs.declared.Refusal.{Refusal}
 use Rattle.schur.specs.ReducedAdd as ReducedAdd
 use Rattle.schur.specs.Reduced as Reduced

@@ -5,7 +5,7 @@ use Rattle.std.specs.Float.{binary64}
 use Rattle.std.specs.Float.Ieee.{of_bits}
 use Rattle.numerics.specs.Binary64.{zero, neg_zero, half, one}
 use Rattle.root.specs.Root.{sqrt}
-use Rattle.refusal.specs.RefusalRow.{map_ok}
+use Rattle.refusal.specs.Chain.{map_ok}
 use Rattle.refusal.specs.declared.Refusal.{Refusal}
 use Rattle.refusal.specs.declared.Refusal.TheVariants.{NotProjectable, NotFactored}
 use Rattle.projection.specs.PixelProjection.{pixel_projection}

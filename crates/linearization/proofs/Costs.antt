@@ -7,7 +7,8 @@ use lib.Dec.{T}
 use lib.Ieee.{Float, binary64, lt, le}
 use lib.Ieee.Fits.{and_l, and_r}
 use Rattle.numerics.specs.Binary64.{◌⊕◌, ◌⊗◌, zero}
-use Rattle.numerics.specs.Classify.{is_finite, is_nonnegative}
+use Rattle.std.specs.Float.{float_is_finite}
+use Rattle.numerics.specs.Classify.{is_nonnegative}
 use Rattle.numerics.specs.Vectors.{◌!◌}
 use Rattle.std.proofs.lemmas.Float.{lt_of_not-le}
 use Rattle.numerics.proofs.Order.{nonneg_add, nonneg_not_nan, nonneg_square}
@@ -35,14 +36,14 @@ use Rattle.linearization.specs.Linearize.{zero_linearization, block_or_zeros, su
 abbrev pub Costs : LocalLinearization → Type 0
 Costs b = T (is_nonnegative b.cost) × T (is_nonnegative b.squared_residual)
 
-deviation_finite : (w : Float) → T (is_valid_inverse_standard_deviation w) → T (is_finite w)
+deviation_finite : (w : Float) → T (is_valid_inverse_standard_deviation w) → T (float_is_finite w)
 unfolding is_valid_inverse_standard_deviation
-deviation_finite w h = and_l (is_finite w) (not (le w zero)) h
+deviation_finite w h = and_l (float_is_finite w) (not (le w zero)) h
 
 deviation_above : (w : Float) → T (is_valid_inverse_standard_deviation w) → T (lt zero w)
 unfolding is_valid_inverse_standard_deviation
 deviation_above w h =
-    lt_of_not-le w zero (finite_not_nan w (deviation_finite w h)) (nonneg_not_nan zero (nonneg_zero binary64)) (and_r (is_finite w) (not (le w zero)) h)
+    lt_of_not-le w zero (finite_not_nan w (deviation_finite w h)) (nonneg_not_nan zero (nonneg_zero binary64)) (and_r (float_is_finite w) (not (le w zero)) h)
 
 first_two : (a b c d e f g h : Bool) → T (a && b && c && d && e && f && g && h) → T a × T b
 first_two true true c d e f g h t = (tt, tt)
@@ -52,7 +53,7 @@ first_two false b c d e f g h t = absurd t
 norm_nonneg : (p : Projection) → T (all_finite p) → T (is_nonnegative (norm p.residual))
 unfolding all_finite
 norm_nonneg p h =
-    let k = first_two (is_finite (p.residual ! 0)) (is_finite (p.residual ! 1)) _ _ _ _ _ _ h in
+    let k = first_two (float_is_finite (p.residual ! 0)) (float_is_finite (p.residual ! 1)) _ _ _ _ _ _ h in
     nonneg_sum_squares (p.residual ! 0) (p.residual ! 1) k.0 k.1
 
 cost_nonneg : (m w : Float) → T (is_nonnegative m) → T (is_valid_inverse_standard_deviation w) → T (is_nonnegative (loss_cost (m ⊗ w)))

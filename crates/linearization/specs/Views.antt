@@ -3,7 +3,7 @@
 use Rattle.std.specs.Prelude.{ℕ, Bool, not, ◌&&◌, List, [], ◌∷◌, Float, is_ok}
 use Rattle.std.specs.Float.Ieee.{le}
 use Rattle.numerics.specs.Binary64.{◌⊗◌, zero}
-use Rattle.numerics.specs.Classify.{is_finite}
+use Rattle.std.specs.Float.{float_is_finite}
 use Rattle.numerics.specs.Vectors.{◌!◌, tabulate}
 use Rattle.refusal.specs.FirstRefusal.{CheckResult, refuse_unless, first_refusal}
 use Rattle.refusal.specs.declared.View.TheVariants.{First, Second}
@@ -23,7 +23,7 @@ use Rattle.linearization.specs.Jacobians.{pose_motion_jacobian, pose_jacobian, p
 
 -- row 4: inverse deviation not finite or ≤ 0
 unfoldable pub is_valid_inverse_standard_deviation : Float → Bool
-is_valid_inverse_standard_deviation x = is_finite x && not (le x zero)
+is_valid_inverse_standard_deviation x = float_is_finite x && not (le x zero)
 
 -- each entry times a weight, as `accumulate` has it
 abbrev pub weighted_entries : ℕ → Float → List Float → List Float

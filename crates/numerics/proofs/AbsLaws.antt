@@ -1,5 +1,4 @@
--- The absolute value by a difference from 0, and the library's test for a finite value. Assumes
--- nothing.
+-- The absolute value by a difference from 0. Assumes nothing.
 use mathlib.Core.Path.{◌≡◌, refl}
 use mathlib.Core.Bool.{true, false, true≢false, false≢true}
 use Prim.Native.Nat.{ℕ, ◌+◌, ◌-◌, ◌*◌, ◌≤◌}
@@ -10,8 +9,7 @@ use lib.IntN.{pos}
 use lib.Dec.{T}
 use lib.Ieee.{Float, nan, inf, fin, Format, up, down, neg, sub, lt, fits, of_bits}
 use lib.Ieee.Fits.{down_pos, neg-fits}
-use Rattle.std.specs.Float.{float_is_finite}
-use Rattle.numerics.specs.Classify.{is_finite, abs}
+use Rattle.numerics.specs.Classify.{abs}
 use Rattle.numerics.proofs.Values.{zero_is, round_value}
 
 -- ---- the absolute value
@@ -50,11 +48,3 @@ from_zero f (fin false m e) p h =
 
 pub abs_rest : (f : Format) (x : Float) → T (fits f x) → lt (of_bits f 0) x ≡ false → sub f (of_bits f 0) x ≡ abs x
 abs_rest f x p h = rw (zero_is f) (from_zero f x p (rw (zero_is f) at h))
-
--- ---- the library's test for a finite value
-
-pub library_is_finite : (x : Float) → float_is_finite x ≡ is_finite x
-unfolding float_is_finite is_finite
-library_is_finite nan = refl
-library_is_finite (inf s) = refl
-library_is_finite (fin s m e) = refl

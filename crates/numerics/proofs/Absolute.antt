@@ -7,7 +7,8 @@ use lib.Dec.{T, ltb, eqb}
 use lib.Ieee.{Float, nan, inf, fin, Format, prec, emax, low, up, down, unlike, odd, units, round, neg, mul, lt, fits, is_nan}
 use lib.Ieee.Fits.{round_is}
 use Rattle.std.proofs.lemmas.Bool.Decides.{nat_tests}
-use Rattle.numerics.specs.Classify.{is_finite, negative, is_nonnegative, abs}
+use Rattle.std.specs.Float.{float_is_finite, is_sign_negative}
+use Rattle.numerics.specs.Classify.{is_nonnegative, abs}
 
 pub nonneg_abs : (x : Float) → T (not (is_nan x)) → T (is_nonnegative (abs x))
 unfolding is_nonnegative abs is_nan
@@ -23,8 +24,8 @@ fits_abs f (fin s zero e) p = p
 fits_abs f (fin s (suc m) e) p = p
 
 -- without the sign it changes nothing
-pub abs_clear : (x : Float) → negative x ≡ false → abs x ≡ x
-unfolding abs negative
+pub abs_clear : (x : Float) → is_sign_negative x ≡ false → abs x ≡ x
+unfolding abs is_sign_negative
 abs_clear nan h = refl
 abs_clear (inf true) h = absurd (true≢false h)
 abs_clear (inf false) h = refl
@@ -94,8 +95,8 @@ abs_below (fin false m e) (fin false n d) = widens (m * up e * down d) (n * up d
 abs_below (fin true m e) (fin false n d) = narrows (m * up e * down d) (n * up d * down e)
 
 -- which a value that is not finite never does
-pub finite_below : (x z : Float) → T (lt (abs x) z) → T (is_finite x)
-unfolding abs lt is_finite
+pub finite_below : (x z : Float) → T (lt (abs x) z) → T (float_is_finite x)
+unfolding abs lt float_is_finite
 finite_below nan z h = h
 finite_below (inf s) nan h = h
 finite_below (inf s) (inf t) h = h
@@ -103,8 +104,8 @@ finite_below (inf s) (fin t n d) h = h
 finite_below (fin s m e) z h = tt
 
 -- below a value with the sign lies what is larger without it
-pub below_negative : (x z : Float) → T (lt x z) → negative z ≡ true → T (lt (abs z) (abs x))
-unfolding abs lt negative
+pub below_negative : (x z : Float) → T (lt x z) → is_sign_negative z ≡ true → T (lt (abs z) (abs x))
+unfolding abs lt is_sign_negative
 below_negative nan z h k = absurd h
 below_negative (inf s) nan h k = absurd h
 below_negative (inf true) (inf true) h k = absurd h

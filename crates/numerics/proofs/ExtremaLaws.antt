@@ -9,10 +9,10 @@ use lib.Dec.{T, eqb, eqb→eq}
 use lib.Ieee.{Float, nan, inf, fin, Format, binary64, up, down, fits, is_nan, lt, eq, level, of_bits, neg}
 use lib.Ieee.Bits.{is_true, is_false}
 use lib.Ieee.Fits.{and_l, and_r, down_pos}
-use Rattle.std.specs.Bool.{beq}
+use Rattle.std.specs.Bool.{beq, passes}
 use Rattle.std.proofs.lemmas.Bool.{false_from_ne_true}
 use Rattle.std.proofs.lemmas.Float.{le_left, le_right, le_of_lt, le_of_eq, eq_flip, eq-not_lt}
-use Rattle.numerics.specs.Classify.{negative}
+use Rattle.std.specs.Float.{is_sign_negative}
 use Rattle.numerics.specs.Extrema.{max, min, PicksOperand, IsMaximum, IsMinimum}
 use Rattle.numerics.proofs.Values.{same_value}
 use Rattle.numerics.proofs.Order.{lt_one_way}
@@ -22,8 +22,8 @@ use Rattle.numerics.proofs.Picks.{pick}
 -- ---- equal values
 
 -- of one sign they are one value
-pub eq_alike : (f : Format) (x y : Float) → T (fits f x) → T (fits f y) → negative x ≡ negative y → T (eq x y) → x ≡ y
-unfolding eq negative
+pub eq_alike : (f : Format) (x y : Float) → T (fits f x) → T (fits f y) → is_sign_negative x ≡ is_sign_negative y → T (eq x y) → x ≡ y
+unfolding eq is_sign_negative
 eq_alike f nan y p q a h = absurd h
 eq_alike f (inf s) nan p q a h = absurd h
 eq_alike f (inf s) (inf t) p q a h = ap inf a
@@ -48,8 +48,8 @@ same_sign true false u h = h
 same_sign false true u h = h
 same_sign false false u h = false≢true u
 
-eq_unlike : (f : Format) (x y : Float) → T (fits f x) → negative x ≡ not (negative y) → T (eq x y) → x ≡ fin (negative x) 0 (pos 0)
-unfolding eq negative
+eq_unlike : (f : Format) (x y : Float) → T (fits f x) → is_sign_negative x ≡ not (is_sign_negative y) → T (eq x y) → x ≡ fin (is_sign_negative x) 0 (pos 0)
+unfolding eq is_sign_negative
 eq_unlike f nan y p a h = absurd h
 eq_unlike f (inf s) nan p a h = absurd h
 eq_unlike f (inf s) (inf t) p a h = absurd (same_sign s t a h)
@@ -103,14 +103,14 @@ flip false false u = absurd (false≢true u)
 
 -- of two zeros the one with the sign wanted is the first where it has that sign, and the second
 -- where the first has the other one
-zero_of : (f : Format) (x y : Float) (wanted sign : Bool) → (T sign → negative x ≡ wanted) → (T (not sign) → negative x ≡ not wanted) → T (fits f x) → T (fits f y)
-    → T (eq x y) → negative x ≡ not (negative y) → cond sign x y ≡ fin wanted 0 (pos 0)
+zero_of : (f : Format) (x y : Float) (wanted sign : Bool) → (T sign → is_sign_negative x ≡ wanted) → (T (not sign) → is_sign_negative x ≡ not wanted) → T (fits f x) → T (fits f y)
+    → T (eq x y) → is_sign_negative x ≡ not (is_sign_negative y) → cond sign x y ≡ fin wanted 0 (pos 0)
 zero_of f x y wanted true is other p q h u = eq_unlike f x y p u h ∙ ap (λ (s : Bool). fin s 0 (pos 0)) (is tt)
 zero_of f x y wanted false is other p q h u =
     eq_unlike f y x q (flip _ _ u) (eq_flip x y h) ∙ ap (λ (s : Bool). fin s 0 (pos 0)) (flip _ _ u ∙ sym (flip _ _ (other tt)))
 
 module _ (f : Format) (ahead : Float → Float → Bool) (strict : Strict ahead) (wanted sign : Bool) (x y : Float)
-    (is : T sign → negative x ≡ wanted) (other : T (not sign) → negative x ≡ not wanted) (p : T (fits f x)) (q : T (fits f y)) where
+    (is : T sign → is_sign_negative x ≡ wanted) (other : T (not sign) → is_sign_negative x ≡ not wanted) (p : T (fits f x)) (q : T (fits f y)) where
   abbrev r : Float
   r = pick (ahead x y) sign x y
 
@@ -125,15 +125,17 @@ module _ (f : Format) (ahead : Float → Float → Bool) (strict : Strict ahead)
 
   picked : PicksOperand ahead (fin wanted 0 (pos 0)) x y r
   picked = record {
-    first_nan = λ k. passed_over (is_nan y) refl (is_true (is_nan x) k);
-    second_nan = λ k. decide true _ _ (is_true (is_nan y) k) refl refl;
-    first = λ k. decide false true _ (is_false (is_nan y) (strict.second_number x y k)) (is_true (ahead x y) k) refl;
+    first_nan = λ k. passed_over (is_nan y) refl k;
+    second_nan = λ k. decide true _ _ k refl refl;
+    first = λ k. decide false true _ (is_false (is_nan y) (strict.second_number x y (passes _ k))) k refl;
     second = λ k.
-        decide false false false (is_false (is_nan y) (strict.first_number y x k)) (strict.one_way y x k)
-        (false_from_ne_true (eq x y) (λ m. subst T (strict.apart y x (eq_flip x y (rw m tt))) k));
-    equal = λ h s. either _ x y (eq_alike f x y p q s h);
-    unlike_zeros = λ h s.
-        decide false false true (is_false (is_nan y) (le_right x y (le_of_eq x y h))) (strict.apart x y h) (is_true (eq x y) h)
+        let h = passes (ahead y x) k in
+        decide false false false (is_false (is_nan y) (strict.first_number y x h)) (strict.one_way y x h)
+        (false_from_ne_true (eq x y) (λ m. subst T (strict.apart y x (eq_flip x y (rw m tt))) h));
+    equal = λ k s. either _ x y (eq_alike f x y p q s (passes _ k));
+    unlike_zeros = λ k s.
+        let h = passes (eq x y) k in
+        decide false false true (is_false (is_nan y) (le_right x y (le_of_eq x y h))) (strict.apart x y h) k
         ∙ zero_of f x y wanted sign is other p q h s;
   }
 
@@ -146,8 +148,8 @@ set false h = absurd h
 
 pub is_maximum : (x y : Float) → T (fits binary64 x) → T (fits binary64 y) → IsMaximum x y (max x y)
 unfolding max of_bits
-is_maximum x y p q = picked binary64 (λ a b. lt b a) above false (not (negative x)) x y (clear (negative x)) (set (negative x)) p q
+is_maximum x y p q = picked binary64 (λ a b. lt b a) above false (not (is_sign_negative x)) x y (clear (is_sign_negative x)) (set (is_sign_negative x)) p q
 
 pub is_minimum : (x y : Float) → T (fits binary64 x) → T (fits binary64 y) → IsMinimum x y (min x y)
 unfolding min of_bits neg
-is_minimum x y p q = picked binary64 lt below true (negative x) x y (is_true (negative x)) (is_false (negative x)) p q
+is_minimum x y p q = picked binary64 lt below true (is_sign_negative x) x y (is_true (is_sign_negative x)) (is_false (is_sign_negative x)) p q

@@ -4,6 +4,7 @@ use mathlib.Core.Path.{◌≡◌, refl, sym, ap, ◌∙◌, subst}
 use mathlib.Core.Bool.{Bool, true, false, not, ◌&&◌, ◌||◌, cond, and-true}
 use mathlib.Core.List.{List, [], ◌∷◌, ◌++◌}
 use Rattle.std.specs.Prelude.{fold}
+use Rattle.std.specs.Bool.{passes}
 use Rattle.std.proofs.lemmas.Bool.{false_from_ne_true}
 use Rattle.std.proofs.lemmas.Float.{floats_per, le_of_not-lt, le_refl}
 use Rattle.std.proofs.lemmas.List.Sums.{fold-append}
@@ -12,7 +13,8 @@ use lib.Dec.{T}
 use lib.Ieee.{Float, Format, binary64, lt, eq, le, fits, is_nan}
 use lib.Ieee.Bits.{is_true, is_false}
 use Rattle.numerics.specs.Binary64.{◌⊗◌, zero, relative_tolerance}
-use Rattle.numerics.specs.Classify.{negative, is_nonnegative}
+use Rattle.std.specs.Float.{is_sign_negative}
+use Rattle.numerics.specs.Classify.{is_nonnegative}
 use Rattle.numerics.proofs.ExtremaLaws.{eq_alike}
 use Rattle.numerics.proofs.Order.{not_lt, nonneg_not_nan, nonneg_is, not_negative, nonneg_above, nonneg_floor}
 use Rattle.numerics.proofs.Monotone.{nonneg_zero}
@@ -46,7 +48,7 @@ max_select least x h = by (is_nan x) refl
     flip true = refl
     flip false = refl
 
-    by : (n : Bool) → is_nan x ≡ n → cond (n || lt x least || (eq least x && not (negative least))) least x ≡ cond (lt least x) x least
+    by : (n : Bool) → is_nan x ≡ n → cond (n || lt x least || (eq least x && not (is_sign_negative least))) least x ≡ cond (lt least x) x least
     by true e = rw (no_lt_nan least x e)
     by false e =
         rw (not_negative least h, and-true (eq least x), floats_per.symm least x)
@@ -73,8 +75,8 @@ pub larger_is : (f : Format) (low x : Float) → T (fits f low) → T (fits f x)
 unfolding max
 larger_is f low x p q = record {
   is = refl;
-  first = λ n. sym (max_select low x n);
-  second = λ n. pick_has _ _ x low (λ z. max_nonnegative low x ≡ z) (nonneg_not_nan low n) (λ h. chosen (is_true (lt low x) h)) (tied n) (λ h. other (is_false (lt low x) h));
+  first = λ k. sym (max_select low x (passes _ k));
+  second = λ k. let n = passes (is_nonnegative low) k in pick_has _ _ x low (λ z. max_nonnegative low x ≡ z) (nonneg_not_nan low n) (λ h. chosen (is_true (lt low x) h)) (tied n) (λ h. other (is_false (lt low x) h));
 }
   where
     chosen : lt low x ≡ true → max_nonnegative low x ≡ x
@@ -83,7 +85,7 @@ larger_is f low x p q = record {
     other : lt low x ≡ false → max_nonnegative low x ≡ low
     other h = rw h
 
-    tied : T (is_nonnegative low) → T (eq x low) → T (not (negative x)) → max_nonnegative low x ≡ x
+    tied : T (is_nonnegative low) → T (eq x low) → T (not (is_sign_negative x)) → max_nonnegative low x ≡ x
     tied n h s =
         let e = eq_same f x low q p (subst T (sym (nonneg_is x (equal_no_nan x low (is_true (eq x low) h)))) s) n h in
         by (lt low x) e
@@ -99,8 +101,8 @@ nonneg_largest low [] n = n
 nonneg_largest low (x ∷ xs) n = nonneg_largest (max low x) xs (nonneg_max low x n)
 
 -- the floor of a scale, 64ε of the largest, is clear of the sign
-pub floor_clear : (xs : List Float) (s : Float) → s ≡ fold_max xs → T (is_nonnegative (relative_tolerance ⊗ s))
-floor_clear xs s e = rw e (nonneg_floor (fold_max xs) (nonneg_largest zero xs (nonneg_zero binary64)))
+pub floor_clear : (xs : List Float) (s : Float) → s ≡ fold_max xs → is_nonnegative (relative_tolerance ⊗ s) ≡ true
+floor_clear xs s e = rw e (is_true _ (nonneg_floor (fold_max xs) (nonneg_largest zero xs (nonneg_zero binary64))))
 
 -- One comparison each finds it: what was found of xs is clear of the sign, and so is what is
 -- found of one more.
@@ -112,5 +114,5 @@ found_none = (nonneg_zero binary64, refl)
 
 pub found_more : (xs : List Float) (low x r : Float) → Found xs low → MaxNonnegative low x r → Found (xs ++ (x ∷ [])) r
 found_more xs low x r h l =
-    let e : r ≡ max low x = l.first h.0 in
+    let e : r ≡ max low x = l.first (is_true _ h.0) in
     (subst (λ (y : Float). T (is_nonnegative y)) (sym e) (nonneg_max low x h.0), e ∙ ap (λ (y : Float). max y x) h.1 ∙ sym (fold-append max zero xs (x ∷ [])))

@@ -14,7 +14,8 @@ use lib.Ieee.Order.{round_mono}
 pub use Rattle.std.proofs.lemmas.Float.{le_trans}
 use Rattle.std.proofs.lemmas.Float.{le_of_not-lt}
 use Rattle.numerics.specs.Binary64.{◌⊕◌, ◌⊗◌, half, neg_zero}
-use Rattle.numerics.specs.Classify.{is_finite, is_nonnegative}
+use Rattle.std.specs.Float.{float_is_finite}
+use Rattle.numerics.specs.Classify.{is_nonnegative}
 use Rattle.numerics.proofs.Values.{round_value, round_zero}
 use Rattle.numerics.proofs.Order.{nonneg_above, nonneg_mul_positive}
 
@@ -68,8 +69,8 @@ nonneg_mul_right f (fin false m e) n d h =
     rw (mul_comm (m * up e) (suc n * up d), mul_comm (down e) (down d)) (nonneg_mul_positive f n d (fin false m e) tt)
 
 -- a weight lies above some z that is clear of the sign
-nonneg_mul_above : (f : Format) (x w z : Float) → T (is_nonnegative x) → T (is_nonnegative z) → T (is_finite w) → T (lt z w) → T (is_nonnegative (mul f x w))
-unfolding is_nonnegative is_finite lt
+nonneg_mul_above : (f : Format) (x w z : Float) → T (is_nonnegative x) → T (is_nonnegative z) → T (float_is_finite w) → T (lt z w) → T (is_nonnegative (mul f x w))
+unfolding is_nonnegative float_is_finite lt
 nonneg_mul_above f x nan z h k p l = absurd p
 nonneg_mul_above f x (inf t) z h k p l = absurd p
 nonneg_mul_above f x (fin true n d) z h k p l = absurd (nonneg_above z (fin true n d) k l)
@@ -86,7 +87,7 @@ unfolding is_nonnegative of_bits
 nonneg_zero binary32 = tt
 nonneg_zero binary64 = tt
 
-pub nonneg_mul_weight : (f : Format) (x w : Float) → T (is_nonnegative x) → T (is_finite w) → T (lt (of_bits f 0) w) → T (is_nonnegative (mul f x w))
+pub nonneg_mul_weight : (f : Format) (x w : Float) → T (is_nonnegative x) → T (float_is_finite w) → T (lt (of_bits f 0) w) → T (is_nonnegative (mul f x w))
 nonneg_mul_weight f x w h p l = nonneg_mul_above f x w (of_bits f 0) h (nonneg_zero f) p l
 
 -- ---- c * x * x for a c that is finite and above zero: where x is 0 so is c * x, and where x is infinite so is c * x
@@ -130,8 +131,8 @@ pub neg_zero_add : (x : Float) → T (fits binary64 x) → neg_zero ⊕ x ≡ x
 unfolding of_bits neg
 neg_zero_add x p = from_negative_zero binary64 x p
 
-pub finite_not_nan : (x : Float) → T (is_finite x) → T (not (is_nan x))
-unfolding is_finite is_nan
+pub finite_not_nan : (x : Float) → T (float_is_finite x) → T (not (is_nan x))
+unfolding float_is_finite is_nan
 finite_not_nan nan h = h
 finite_not_nan (inf s) h = tt
 finite_not_nan (fin s m e) h = tt

@@ -13,7 +13,8 @@ pub use Rattle.std.proofs.lemmas.Float.{le_refl}
 use Rattle.std.proofs.lemmas.Bool.{false_from_ne_true}
 use Rattle.std.proofs.lemmas.Float.{lt_irrefl, lt_trans, lt_of_lt_of_le, le_of_not-lt}
 use Rattle.numerics.specs.Binary64.{◌⊗◌, relative_tolerance, recip}
-use Rattle.numerics.specs.Classify.{is_finite, negative, is_nonnegative}
+use Rattle.std.specs.Float.{float_is_finite, is_sign_negative}
+use Rattle.numerics.specs.Classify.{is_nonnegative}
 
 -- ---- the order of values
 
@@ -37,14 +38,14 @@ nonneg_not_nan nan h = h
 nonneg_not_nan (inf s) h = tt
 nonneg_not_nan (fin s m e) h = tt
 
-pub nonneg_is : (x : Float) → T (not (is_nan x)) → is_nonnegative x ≡ not (negative x)
-unfolding is_nonnegative negative is_nan
+pub nonneg_is : (x : Float) → T (not (is_nan x)) → is_nonnegative x ≡ not (is_sign_negative x)
+unfolding is_nonnegative is_sign_negative is_nan
 nonneg_is nan p = absurd p
 nonneg_is (inf s) p = refl
 nonneg_is (fin s m e) p = refl
 
-pub not_negative : (x : Float) → T (is_nonnegative x) → negative x ≡ false
-not_negative x h = is_false (negative x) (subst T (nonneg_is x (nonneg_not_nan x h)) h)
+pub not_negative : (x : Float) → T (is_nonnegative x) → is_sign_negative x ≡ false
+not_negative x h = is_false (is_sign_negative x) (subst T (nonneg_is x (nonneg_not_nan x h)) h)
 
 -- what lies above such a value is one too
 pub nonneg_above : (x y : Float) → T (is_nonnegative x) → T (lt x y) → T (is_nonnegative y)
@@ -118,8 +119,8 @@ pub nonneg_floor : (y : Float) → T (is_nonnegative y) → T (is_nonnegative (r
 unfolding of_bits
 nonneg_floor y h = nonneg_mul_positive binary64 0 (negsuc 45) y h
 
-pub nonneg_recip : (x : Float) → T (is_finite x) → T (is_nonnegative x) → T (is_nonnegative (recip x))
-unfolding is_finite is_nonnegative div of_bits
+pub nonneg_recip : (x : Float) → T (float_is_finite x) → T (is_nonnegative x) → T (is_nonnegative (recip x))
+unfolding float_is_finite is_nonnegative div of_bits
 nonneg_recip nan f h = absurd h
 nonneg_recip (inf s) f h = absurd f
 nonneg_recip (fin true m e) f h = absurd h

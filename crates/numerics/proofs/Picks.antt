@@ -4,14 +4,6 @@ use mathlib.Core.Bool.{Bool, true, false, not, ◌&&◌, ◌||◌, cond}
 use lib.Dec.{T}
 use lib.Ieee.{Float, nan, inf, fin, eq, is_nan}
 use Rattle.std.specs.Float.{is_sign_negative}
-use Rattle.numerics.specs.Classify.{negative}
-
--- the sign as std has it
-pub sign_is : (x : Float) → is_sign_negative x ≡ negative x
-unfolding is_sign_negative negative
-sign_is nan = refl
-sign_is (inf s) = refl
-sign_is (fin s m e) = refl
 
 -- `max x y` and `min x y` alike: ahead says that x is strictly the one wanted, and sign that it
 -- has the wanted sign

@@ -17,7 +17,8 @@ use Rattle.std.specs.Prelude.{fold}
 use Rattle.std.proofs.lemmas.Bool.{false_from_ne_true}
 use Rattle.std.proofs.lemmas.Float.{le_right, le_of_lt, lt_irrefl, lt_of_le_of_lt, lt_of_lt_of_le}
 use Rattle.numerics.specs.Binary64.{◌⊗◌, zero as zero·, relative_tolerance}
-use Rattle.numerics.specs.Classify.{negative, is_nonnegative, abs}
+use Rattle.std.specs.Float.{is_sign_negative}
+use Rattle.numerics.specs.Classify.{is_nonnegative, abs}
 use Rattle.numerics.specs.Vectors.{all_finite}
 use Rattle.numerics.specs.Extrema.{max, fold_max}
 use Rattle.numerics.proofs.Values.{round_value}
@@ -108,15 +109,15 @@ module _ (f : Format) (m : ℕ) (e : ℤ) where
     -- where the product is below the value, so is its absolute value: no value with the sign has it
     -- so
     scaled_below : (x : Float) → T (fits f x) → lt (abs (scaled x)) x ≡ lt (scaled x) x
-    scaled_below x p = by (negative x) refl
+    scaled_below x p = by (is_sign_negative x) refl
       where
-        never : negative x ≡ true → T (lt (scaled x) x) → ⊥
+        never : is_sign_negative x ≡ true → T (lt (scaled x) x) → ⊥
         never k h =
             lt_irrefl (abs x)
             (lt_of_lt_of_le (abs x) (scaled (abs x)) (abs x) (subst (λ (y : Float). T (lt (abs x) y)) (abs_scaled x) (below_negative (scaled x) x h k))
             (mul_le (abs x) (fits_abs f x p) (nonneg_abs x (le_right _ x (le_of_lt _ x h)))))
 
-        by : (s : Bool) → negative x ≡ s → lt (abs (scaled x)) x ≡ lt (scaled x) x
+        by : (s : Bool) → is_sign_negative x ≡ s → lt (abs (scaled x)) x ≡ lt (scaled x) x
         by false k = rw (abs_scaled x, abs_clear x k) refl
         by true k = let n : lt (scaled x) x ≡ false = false_from_ne_true (lt (scaled x) x) (λ h. never k (rw h tt)) in rw (abs_below (scaled x) x, n) refl
 

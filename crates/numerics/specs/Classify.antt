@@ -1,15 +1,9 @@
 -- The parts of a value: its sign, its absolute value, whether it is finite, and its magnitude as a
 -- whole number.
 use Rattle.std.specs.Prelude.{ℕ, ◌*◌, ◌/◌, ◌^◌, Bool, true, false, not, ◌&&◌, Float}
-use Rattle.std.specs.Float.{nan, inf, fin, binary64}
+use Rattle.std.specs.Float.{nan, inf, fin, binary64, float_is_finite}
 use Rattle.std.specs.Float.Ieee.{low, up, down, lt}
 use Rattle.numerics.specs.Binary64.{zero}
-
--- whether the sign is set: true of −0 too
-unfoldable pub negative : Float → Bool
-negative nan = false
-negative (inf s) = s
-negative (fin s m e) = s
 
 -- a number with the sign clear: +0 and what lies above it, and neither −0 nor NaN
 unfoldable pub is_nonnegative : Float → Bool
@@ -17,14 +11,8 @@ is_nonnegative nan = false
 is_nonnegative (inf s) = not s
 is_nonnegative (fin s m e) = not s
 
--- `f64::is_finite`
-unfoldable pub is_finite : Float → Bool
-is_finite nan = false
-is_finite (inf s) = false
-is_finite (fin s m e) = true
-
 abbrev pub is_positive_finite : Float → Bool
-is_positive_finite x = is_finite x && lt zero x
+is_positive_finite x = float_is_finite x && lt zero x
 
 -- `f64::abs`: the sign is cleared, of a zero too
 unfoldable pub abs : Float → Float

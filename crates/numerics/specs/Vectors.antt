@@ -1,9 +1,8 @@
 -- Small vectors and matrices: flat lists, row by row. Sums as the Rust's iterators work them out.
 use Rattle.std.specs.Prelude.{ℕ, zero as zero·, suc, Bool, true, ◌&&◌, List, [], ◌∷◌, get_or, Float}
-use Rattle.std.specs.Float.{nan}
+use Rattle.std.specs.Float.{nan, float_is_finite}
 use Rattle.std.specs.Float.Ieee.{eq}
 use Rattle.numerics.specs.Binary64.{◌⊕◌, ◌⊗◌, zero, neg_zero}
-use Rattle.numerics.specs.Classify.{is_finite}
 
 infixl 90 ◌!◌
 -- the entry at i
@@ -21,7 +20,7 @@ sum xs = sum_from neg_zero xs
 -- every entry is finite
 unfoldable pub all_finite : List Float → Bool
 all_finite [] = true
-all_finite (x ∷ xs) = is_finite x && all_finite xs
+all_finite (x ∷ xs) = float_is_finite x && all_finite xs
 
 -- every entry is a zero, of either sign
 unfoldable pub all_zero : List Float → Bool

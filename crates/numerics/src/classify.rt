@@ -1,5 +1,6 @@
 // The absolute value, the test for a finite value, and the reciprocal.
 ghost use Rattle.std.specs.Prelude.{◌≡◌};
+ghost use Rattle.std.specs.Float.{float_is_finite};
 ghost use Rattle.numerics.specs.Binary64 as Binary64;
 ghost use Rattle.numerics.specs.Classify as Classify;
 
@@ -14,9 +15,8 @@ pub fn abs(x: f64) -> f64
 }
 
 /// `f64::is_finite`.
-#[tactic(auto, using(crate::proofs::AbsLaws::library_is_finite))]
 pub fn is_finite(x: f64) -> bool
-    ensures { result ≡ Classify.is_finite x }
+    ensures { result ≡ float_is_finite x }
 {
     x.is_finite()
 }

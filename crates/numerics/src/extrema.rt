@@ -4,7 +4,7 @@ ghost use Rattle.std.specs.Prelude.{◌≡◌};
 ghost use Rattle.numerics.specs.Extrema as Extrema;
 
 /// The larger of the two, as `f64::max`. A NaN is passed over; of unlike zeros it is +0.
-#[tactic(auto, using(crate::proofs::Picks::sign_is), unfolding(crate::specs::Extrema::max))]
+#[tactic(auto, unfolding(crate::specs::Extrema::max))]
 pub fn max(x: f64, y: f64) -> f64
     ensures result { result ≡ Extrema.max x y }
     ensures standard { Extrema.IsMaximum x y result }
@@ -17,7 +17,7 @@ pub fn max(x: f64, y: f64) -> f64
 }
 
 /// The smaller of the two, as `f64::min`. A NaN is passed over; of unlike zeros it is −0.
-#[tactic(auto, using(crate::proofs::Picks::sign_is), unfolding(crate::specs::Extrema::min))]
+#[tactic(auto, unfolding(crate::specs::Extrema::min))]
 pub fn min(x: f64, y: f64) -> f64
     ensures result { result ≡ Extrema.min x y }
     ensures standard { Extrema.IsMinimum x y result }

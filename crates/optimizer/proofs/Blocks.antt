@@ -95,7 +95,7 @@ blocks p i zero = []
 blocks p i (suc n) = block_at p i ∷ blocks p (suc i) n
 
 module _ (p : Problem) (ok : check_problem p ≡ Ok tt) where
-  good : T (is_valid_damping p.damping)
+  good : is_valid_damping p.damping ≡ true
   good = (passed p ok).damping
 
   few : count p ≤ max_blocks
@@ -108,7 +108,7 @@ module _ (p : Problem) (ok : check_problem p ≡ Ok tt) where
   unfolding add system_to
   added i h =
       let k = counts p i (omega (arith, few)) in
-      rw (is_true (is_valid_damping p.damping) good, k.0, k.1) refl
+      rw (good, k.0, k.1) refl
 
   called : (i : ℕ) → i < count p → system_after_call p.damping (system_to p i) (Add (inputs p i)) ≡ system_to p (suc i)
   called i h =

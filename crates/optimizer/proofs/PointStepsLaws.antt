@@ -31,7 +31,7 @@ use Rattle.optimizer.specs.Step.{NoneRefused}
 use Rattle.optimizer.proofs.Blocks.{added, block_factors}
 
 -- a block that factors has the step of the formulas
-damped_steps : (b : LocalLinearization) (d : Float) (s : List Float) → T (is_valid_damping d) → factors d b ≡ true → damped_step (point_terms b) d s ≡ Ok (Point.step_at (point_terms b) d s)
+damped_steps : (b : LocalLinearization) (d : Float) (s : List Float) → is_valid_damping d ≡ true → factors d b ≡ true → damped_step (point_terms b) d s ≡ Ok (Point.step_at (point_terms b) d s)
 unfolding damped_step point_terms factors
 damped_steps b d s g e = by (factor b.point_hessian d) refl (sym (lone_factors b.point_hessian d g) ∙ e)
   where
@@ -43,7 +43,7 @@ damped_steps b d s g e = by (factor b.point_hessian d) refl (sym (lone_factors b
     by (Err r) q t = absurd (true≢false (sym t))
 
 module _ (p : Problem) (ok : check_problem p ≡ Ok tt) where
-  good : T (is_valid_damping p.damping)
+  good : is_valid_damping p.damping ≡ true
   good = (passed p ok).damping
 
   pub step_given : is_valid (reduced_system p) ≡ true → (i : ℕ) → i < count p → (s : List Float) → damped_step (point_terms (block_at p i)) p.damping s ≡ Ok (step_at p s i)
@@ -60,7 +60,7 @@ module _ (p : Problem) (ok : check_problem p ≡ Ok tt) where
   none_refused = record {
     blocks = block_made p ok;
     adds = added p ok;
-    damping = rw (is_true (is_valid_damping p.damping) good) refl;
-    steps = λ valid i k s. rw (is_true (is_valid_damping p.damping) good) (step_given valid i k s);
-    prediction = λ s norm. rw (is_true (is_valid_damping p.damping) good) refl;
+    damping = rw good refl;
+    steps = λ valid i k s. rw good (step_given valid i k s);
+    prediction = λ s norm. rw good refl;
   }

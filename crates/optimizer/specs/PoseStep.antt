@@ -1,5 +1,5 @@
 -- The step of the pose, limited in length: `limit_pose_step` of optimizer.rs.
-use Rattle.std.specs.Prelude.{cond, List, [], ◌∷◌, Float}
+use Rattle.std.specs.Prelude.{if◌then◌else◌, List, [], ◌∷◌, Float}
 use Rattle.std.specs.Float.Ieee.{neg, lt}
 use Rattle.numerics.specs.Binary64.{◌⊗◌, ◌⊘◌, half}
 use Rattle.root.specs.Root.{sqrt}
@@ -18,7 +18,7 @@ scaled_step x by = tabulate 5 (λ i. x ! i ⊗ by)
 
 -- `limit_pose_step` at 0.5; the comparison is false for a NaN, which lets the vector through
 unfoldable pub limit_pose_step : List Float → List Float
-limit_pose_step x = cond (lt half (step_length x)) (scaled_step x (half ⊘ step_length x)) x
+limit_pose_step x = if lt half (step_length x) then scaled_step x (half ⊘ step_length x) else x
 
 unfoldable pub negated_limited_step : List Float → List Float
 negated_limited_step x = limit_pose_step (tabulate 5 (λ i. neg (x ! i)))

@@ -1,10 +1,10 @@
 -- `refine_impl` of optimizer.rs from `reduced_system` to `predicted_reduction`, once: document
 -- 01, "One whole step".
-use Rattle.std.specs.Prelude.{ℕ, suc, ◌*◌, ◌<◌, ◌≡◌, true, cond, List, eqb, length, Float, Result, Ok, Err}
+use Rattle.std.specs.Prelude.{ℕ, suc, ◌*◌, ◌<◌, ◌≡◌, true, if◌then◌else◌, List, ◌==◌, length, Float, Result, Ok, Err}
 use Rattle.std.specs.Result.{result_and}
 use Rattle.refusal.specs.Outcome.{outcome}
 use Rattle.refusal.specs.FirstRefusal.{CheckResult, refuse_unless}
-use Rattle.refusal.specs.RefusalRow.{map_ok}
+use Rattle.refusal.specs.Chain.{map_ok}
 use Rattle.refusal.specs.declared.Refusal.{Refusal}
 use Rattle.refusal.specs.declared.Refusal.TheVariants.{Lengths, NotFactored}
 use Rattle.linearization.specs.Linearize.{linearize_point}
@@ -31,11 +31,11 @@ result_with p s =
 
 -- rows 10 and 11, then the step
 unfoldable pub step_after_checks : Problem → Result StepResult Refusal
-step_after_checks p = cond (is_valid (reduced_system p)) (map_ok (λ x. result_with p (negated_limited_step x)) (solution_of p)) (Err NotFactored)
+step_after_checks p = if is_valid (reduced_system p) then map_ok (λ x. result_with p (negated_limited_step x)) (solution_of p) else Err NotFactored
 
 -- rows 1 to 9, the room's length included
 unfoldable pub check_step : Problem → ℕ → CheckResult
-check_step p room = result_and (refuse_unless (eqb room (3 * count p)) Lengths) (Checks.check_problem p)
+check_step p room = result_and (refuse_unless (room == (3 * count p)) Lengths) (Checks.check_problem p)
 
 -- rows 1 to 11, then the step
 unfoldable pub step : Problem → ℕ → Result StepResult Refusal

@@ -1,5 +1,6 @@
 // The number helpers.
 ghost use Rattle.std.specs.Prelude.{◌≡◌};
+ghost use Rattle.std.specs.Float.{float_is_finite};
 ghost use Rattle.std.specs.Float.Ieee as Ieee;
 ghost use Rattle.std.specs.Float.{binary64};
 ghost use Rattle.numerics.specs.Binary64 as Binary64;
@@ -28,7 +29,7 @@ pub extern "C" fn pixel_step_abs(x: f64) -> f64
 /// Whether it is neither infinite nor a NaN
 #[unsafe(no_mangle)]
 pub extern "C" fn pixel_step_is_finite(x: f64) -> bool
-    ensures { result ≡ Classify.is_finite x }
+    ensures { result ≡ float_is_finite x }
 {
     numerics::is_finite(x)
 }

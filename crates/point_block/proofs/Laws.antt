@@ -6,9 +6,11 @@ use lib.Ieee.{Float, binary64, lt}
 use lib.Ieee.Bits.{is_true}
 use lib.Ieee.Fits.{and_l, and_r}
 use Rattle.numerics.specs.Binary64.{◌⊗◌, zero, recip}
-use Rattle.numerics.specs.Classify.{is_finite, is_nonnegative, is_positive_finite}
+use Rattle.std.specs.Float.{float_is_finite}
+use Rattle.numerics.specs.Classify.{is_nonnegative, is_positive_finite}
 use Rattle.numerics.proofs.Order.{nonneg_above, nonneg_recip}
 use Rattle.numerics.proofs.Monotone.{nonneg_zero}
+use Rattle.refusal.specs.Chain.{◌>>=◌, map_ok}
 use Rattle.refusal.specs.declared.Refusal.{Refusal}
 use Rattle.refusal.specs.declared.Refusal.TheVariants.{NotFactored}
 use Rattle.point_block.specs.Cholesky.{has_valid_pivots, factor_of, inverse_by, invert}
@@ -21,14 +23,13 @@ use Rattle.point_block.specs.FactorWithRcond.{factor, factor_with_rcond, inverse
 
 -- the lone factor gives the factor wherever there is one: nothing but the matrix and the damping
 -- decides whether there is
-pub lone_factors : (m : List Float) (damping : Float) → T (is_valid_damping damping) → is_ok (factor_with_rcond m damping) ≡ is_ok (factor m damping)
+pub lone_factors : (m : List Float) (damping : Float) → is_valid_damping damping ≡ true → is_ok (factor_with_rcond m damping) ≡ is_ok (factor m damping)
 unfolding factor_with_rcond
-lone_factors m damping g = rw (is_true (is_valid_damping damping) g) (by (factor m damping))
+lone_factors m damping g = rw g (by _ (factor m damping))
   where
-    by : (f : Result PointBlockFactor Refusal)
-        → is_ok {T = ConditionedFactor} {E = Refusal} (elim f [ Ok g ↦ Ok (record { factor = g; rcond = reciprocal_condition_number g.inverse m }) | Err r ↦ Err r ]) ≡ is_ok f
-    by (Ok f) = refl
-    by (Err r) = refl
+    by : (k : PointBlockFactor → ConditionedFactor) (f : Result PointBlockFactor Refusal) → is_ok (map_ok k f) ≡ is_ok f
+    by k (Ok f) = refl
+    by k (Err r) = refl
 
 -- the factor of a damped matrix is the inverse by the formulas alone
 damped_factor_is : (h : List Float) (f : PointBlockFactor) → factor_damped h ≡ Ok f → f.inverse ≡ inverse_by h (damping_diagonal_of h)
@@ -52,10 +53,10 @@ unfolding factor damped_matrix damping_diagonal
 factor_is m damping f = by (is_positive_finite (largest_diagonal m))
   where
     damped_by : Bool → Result (List Float) Refusal
-    damped_by good = elim (cond good (Ok (damping_diagonal_of m)) (Err NotFactored)) [ Ok d ↦ Ok (with_added_diagonal m damping d) | Err r ↦ Err r ]
+    damped_by good = map_ok (with_added_diagonal m damping) (cond good (Ok (damping_diagonal_of m)) (Err NotFactored))
 
     factor_by : Bool → Result PointBlockFactor Refusal
-    factor_by good = elim (damped_by good) [ Ok d ↦ factor_damped d | Err r ↦ Err r ]
+    factor_by good = damped_by good >>= factor_damped
 
     by : (good : Bool) → factor_by good ≡ Ok f → f.inverse ≡ inverse_at m damping
     by true e = damped_factor_is (with_added_diagonal m damping (damping_diagonal_of m)) f e
@@ -71,7 +72,7 @@ rcond_nonneg i m = by (infinity_norm m ⊗ infinity_norm (inverse_matrix i))
       where
         go : (b : Bool) → (T b → T (is_positive_finite d)) → T (is_nonnegative (cond b (recip d) zero))
         go true k =
-            let A = is_finite d in
+            let A = float_is_finite d in
             let B = lt zero d in
             nonneg_recip d (and_l A B (k tt)) (nonneg_above zero d (nonneg_zero binary64) (and_r A B (k tt)))
         go false k = nonneg_zero binary64

@@ -1,9 +1,9 @@
 -- The scaled Cholesky factor of a symmetric 3 by 3 block, the arithmetic of `factor_damped` of
 -- point_block.rs. A matrix is nine numbers, row by row.
-use Rattle.std.specs.Prelude.{Bool, ◌&&◌, cond, List, [], ◌∷◌, Float, Option, Some, None}
+use Rattle.std.specs.Prelude.{Bool, ◌&&◌, if◌then◌else◌, List, [], ◌∷◌, Float, Option, Some, None}
 use Rattle.std.specs.Float.Ieee.{neg, lt}
 use Rattle.numerics.specs.Binary64.{◌⊕◌, ◌⊖◌, ◌⊗◌, ◌⊘◌, half, relative_tolerance, recip}
-use Rattle.numerics.specs.Classify.{is_finite}
+use Rattle.std.specs.Float.{float_is_finite}
 use Rattle.root.specs.Root.{sqrt}
 use Rattle.numerics.specs.Vectors.{◌!◌}
 use Rattle.point_block.specs.declared.cholesky.Scale.{Scale}
@@ -39,7 +39,7 @@ cholesky_of a =
 
 -- "Each scaled pivot must be finite and > 64ε"
 abbrev pub is_valid_pivot : Float → Bool
-is_valid_pivot p = is_finite p && lt relative_tolerance p
+is_valid_pivot p = float_is_finite p && lt relative_tolerance p
 
 unfoldable pub has_valid_pivots : Factor → Bool
 has_valid_pivots c = is_valid_pivot c.p0 && is_valid_pivot c.p1 && is_valid_pivot c.p2
@@ -76,4 +76,4 @@ inverse_by m d = inverse_of (factor_of m d).lower (scale_of d)
 
 -- none where a pivot is not good
 unfoldable pub invert : List Float → List Float → Option (List Float)
-invert m d = cond (has_valid_pivots (factor_of m d)) (Some (inverse_by m d)) None
+invert m d = if has_valid_pivots (factor_of m d) then Some (inverse_by m d) else None

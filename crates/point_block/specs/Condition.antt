@@ -1,6 +1,6 @@
 -- `reciprocal_condition_number` of point_block.rs: 1 ÷ (infinity norm of the matrix × that of
 -- the inverse), or 0 if that product is not positive and finite.
-use Rattle.std.specs.Prelude.{Bool, cond, List, [], ◌∷◌, Float}
+use Rattle.std.specs.Prelude.{Bool, if◌then◌else◌, List, [], ◌∷◌, Float}
 use Rattle.std.specs.Float.Ieee.{le}
 use Rattle.numerics.specs.Binary64.{◌⊗◌, zero, one, point_block_rcond_threshold, recip}
 use Rattle.numerics.specs.Classify.{abs, is_positive_finite}
@@ -27,7 +27,7 @@ inverse_matrix i =
 unfoldable pub reciprocal_condition_number : List Float → List Float → Float
 reciprocal_condition_number i m =
     let denominator = infinity_norm m ⊗ infinity_norm (inverse_matrix i) in
-    cond (is_positive_finite denominator) (recip denominator) zero
+    if is_positive_finite denominator then recip denominator else zero
 
 -- of a block that factors at damping zero, by its rcond: weak at 192ε and below
 abbrev pub is_weak : Float → Bool

@@ -1,21 +1,23 @@
 -- The damping of a 3 by 3 point block, `damping_diagonal` and `damped_matrix` of point_block.rs.
 -- A matrix is nine numbers, row by row.
-use Rattle.std.specs.Prelude.{Bool, not, ◌&&◌, cond, List, [], ◌∷◌, Float, Result, Ok, Err}
+use Rattle.std.specs.Prelude.{Bool, not, ◌&&◌, if◌then◌else◌, List, [], ◌∷◌, Float, Result, Ok, Err}
 use Rattle.std.specs.Float.Ieee.{lt, eq}
 use Rattle.numerics.specs.Binary64.{◌⊕◌, ◌⊗◌, zero, relative_tolerance}
-use Rattle.numerics.specs.Classify.{is_finite, is_positive_finite}
+use Rattle.std.specs.Float.{float_is_finite}
+use Rattle.numerics.specs.Classify.{is_positive_finite}
 use Rattle.numerics.specs.Vectors.{◌!◌}
 use Rattle.numerics.specs.Extrema.{max, fold_max}
+use Rattle.refusal.specs.Chain.{map_ok}
 use Rattle.refusal.specs.declared.Refusal.{Refusal}
 use Rattle.refusal.specs.declared.Refusal.TheVariants.{Damping, NotFactored}
 
 -- row 3: damping not finite or below 0
 unfoldable pub is_valid_damping : Float → Bool
-is_valid_damping damping = is_finite damping && not (lt damping zero)
+is_valid_damping damping = float_is_finite damping && not (lt damping zero)
 
 -- a damping that row 3 lets through, or its refusal
 abbrev pub valid_damping : Float → Result Float Refusal
-valid_damping damping = cond (is_valid_damping damping) (Ok damping) (Err Damping)
+valid_damping damping = if is_valid_damping damping then Ok damping else Err Damping
 
 -- "Damping −0 counts as zero"
 abbrev pub is_zero : Float → Bool
@@ -32,7 +34,7 @@ damping_diagonal_of m =
 
 -- "No positive finite largest diagonal: no factor": row 10
 unfoldable pub damping_diagonal : List Float → Result (List Float) Refusal
-damping_diagonal m = cond (is_positive_finite (largest_diagonal m)) (Ok (damping_diagonal_of m)) (Err NotFactored)
+damping_diagonal m = if is_positive_finite (largest_diagonal m) then Ok (damping_diagonal_of m) else Err NotFactored
 
 -- the matrix with damping times those entries added along the diagonal
 unfoldable pub with_added_diagonal : List Float → Float → List Float → List Float
@@ -49,4 +51,4 @@ with_added_diagonal m damping d =
     ∷ []
 
 unfoldable pub damped_matrix : List Float → Float → Result (List Float) Refusal
-damped_matrix m damping = elim (damping_diagonal m) [ Ok d ↦ Ok (with_added_diagonal m damping d) | Err r ↦ Err r ]
+damped_matrix m damping = map_ok (with_added_diagonal m damping) (damping_diagonal m)

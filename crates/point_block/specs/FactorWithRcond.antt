@@ -1,10 +1,10 @@
 -- The factor of a block at a damping, which is the Rust's `PointBlockFactor::new`, and the lone
 -- factor of document 01, which tests row 3, then row 10, and has its rcond beside it.
-use Rattle.std.specs.Prelude.{cond, List, Float, Result, Ok, Err}
+use Rattle.std.specs.Prelude.{List, Float, Result}
 use Rattle.numerics.specs.Binary64.{zero}
 use Rattle.refusal.specs.declared.Refusal.{Refusal}
-use Rattle.refusal.specs.declared.Refusal.TheVariants.{Damping}
-use Rattle.point_block.specs.Damping.{is_valid_damping, damping_diagonal_of, with_added_diagonal, damped_matrix}
+use Rattle.refusal.specs.Chain.{◌>>=◌, map_ok}
+use Rattle.point_block.specs.Damping.{valid_damping, damping_diagonal_of, with_added_diagonal, damped_matrix}
 use Rattle.point_block.specs.declared.PointBlockFactor.{PointBlockFactor}
 use Rattle.point_block.specs.declared.ConditionedFactor.{ConditionedFactor}
 use Rattle.point_block.specs.Cholesky.{inverse_by}
@@ -13,7 +13,7 @@ use Rattle.point_block.specs.Condition.{reciprocal_condition_number}
 
 -- the factor of the damped matrix; it depends on the matrix and the damping alone
 unfoldable pub factor : List Float → Float → Result PointBlockFactor Refusal
-factor m damping = elim (damped_matrix m damping) [ Ok d ↦ factor_damped d | Err r ↦ Err r ]
+factor m damping = damped_matrix m damping >>= factor_damped
 
 -- the packed inverse of the damped matrix by the formulas alone: that of the factor, where there
 -- is one
@@ -29,6 +29,5 @@ zero_conditioned_factor = record { factor = zero_factor; rcond = zero }
 -- the rcond is that of the matrix as handed in, undamped
 unfoldable pub factor_with_rcond : List Float → Float → Result ConditionedFactor Refusal
 factor_with_rcond m damping =
-    cond (is_valid_damping damping)
-    (elim (factor m damping) [ Ok f ↦ Ok (record { factor = f; rcond = reciprocal_condition_number f.inverse m }) | Err r ↦ Err r ])
-    (Err Damping)
+    valid_damping damping
+    >>= (λ d. map_ok (λ f. record { factor = f; rcond = reciprocal_condition_number f.inverse m }) (factor m d))

@@ -4,7 +4,7 @@
 // The damping of a symmetric 3 by 3 point block: kernel/point_block.rs. A matrix is nine numbers,
 // row by row.
 
-ghost use Rattle.std.specs.Prelude.{◌≡◌, T};
+ghost use Rattle.std.specs.Prelude.{◌≡◌, IsTrue};
 ghost use Rattle.numerics.specs.Vectors.{zeros};
 ghost use Rattle.refusal.specs.Outcome.{outcome};
 ghost use Rattle.point_block.specs.Damping as Damping;
@@ -20,14 +20,14 @@ pub struct ValidDamping {
 }
 
 impl Model for ValidDamping {
-    ghost use Rattle.std.specs.Prelude.{T, Float};
+    ghost use Rattle.std.specs.Prelude.{IsTrue, Float};
     ghost use Rattle.point_block.specs.Damping.{is_valid_damping};
 
     ghost Value = { Float };
 
     ghost view = { λ d. d.value };
 
-    ghost invariant = { λ d. T (is_valid_damping d.value) };
+    ghost invariant = { λ d. IsTrue (is_valid_damping d.value) };
 
     ghost inverse = { λ x. record { value = x } };
 }
@@ -47,7 +47,7 @@ impl ValidDamping {
     /// The number itself
     pub fn value(self) -> f64
         ensures value { result ≡ self }
-        ensures valid { T (Damping.is_valid_damping result) }
+        ensures valid { IsTrue (Damping.is_valid_damping result) }
     {
         self.value
     }

@@ -32,7 +32,7 @@ all_fit p v w n t h =
 -- what a problem is that rows 1 to 9 let through
 pub record Passed (p : Problem) : Type 0 where
   pub fits : HasMatchingLengths p
-  pub damping : T (is_valid_damping p.damping)
+  pub damping : is_valid_damping p.damping ≡ true
   pub inverse_standard_deviations : first_refusal_from (check_inverse_standard_deviation p.inverse_standard_deviations) 0 (count p) ≡ Ok tt
   pub projections : first_refusal_from (check_projection p) 0 (count p) ≡ Ok tt
 
@@ -50,7 +50,7 @@ passed p e =
     let view2 = after_ok (first_refusal_from (check_observation p Second) 0 (count p)) _ view1.1 in
     record {
       fits = all_fit _ _ _ _ (held (has_matching_lengths p) Lengths lengths.0) (held (leb (count p) max_points) TooManyPoints points.0);
-      damping = subst T (sym (held (is_valid_damping p.damping) Damping damping.0)) tt;
+      damping = held (is_valid_damping p.damping) Damping damping.0;
       inverse_standard_deviations = inverse_standard_deviations.0;
       projections = view2.1;
     }
@@ -62,9 +62,9 @@ block_made p e i h =
     let k = passed p e in
     let deviation = held (is_valid_inverse_standard_deviation (p.inverse_standard_deviations ! i)) (InverseStandardDeviation i) (all_ok (check_inverse_standard_deviation p.inverse_standard_deviations) (count p) i h k.inverse_standard_deviations) in
     let both = after_ok (check_view p i First) (check_view p i Second) (all_ok (check_projection p) (count p) i h k.projections) in
-    let first_refusal_from = held _ (PointNotProjectable First i) both.0 in
+    let first = held _ (PointNotProjectable First i) both.0 in
     let second = held _ (PointNotProjectable Second i) both.1 in
-    rw (deviation, first_refusal_from, second) refl
+    rw (deviation, first, second) refl
 
 -- ---- row by row
 
@@ -86,7 +86,7 @@ fitting_check p f = rw (eq-eqb _ _ f.0, eq-eqb _ _ f.1, eq-eqb _ _ f.2, is_true 
 
 -- A problem whose points need not be looked at again: rows 1 to 3, 5 and 7 let it through, and
 -- rows 4 and 9 each point by itself.
-module _ (p : Problem) (fits : HasMatchingLengths p) (damping : T (is_valid_damping p.damping)) (rest : (is_valid_baseline p.rig.pose.baseline && leb min_points (count p)) ≡ true)
+module _ (p : Problem) (fits : HasMatchingLengths p) (damping : is_valid_damping p.damping ≡ true) (rest : (is_valid_baseline p.rig.pose.baseline && leb min_points (count p)) ≡ true)
     (accepted : AcceptsFirst p (count p)) where
   -- what the tests of a point's views say
   record Seen (i : ℕ) : Type 0 where
@@ -132,7 +132,7 @@ module _ (p : Problem) (fits : HasMatchingLengths p) (damping : T (is_valid_damp
       let n = count p in
       fitting_check p fits
       ∙ rw (
-        is_true _ damping,
+        damping,
         passes (check_inverse_standard_deviation p.inverse_standard_deviations) n deviations_pass,
         r.0,
         passes (check_point p.points) n points_pass,

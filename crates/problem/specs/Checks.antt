@@ -1,11 +1,11 @@
 -- The checks of the whole step that look at no sum: rows 1 to 9 of document 01, "Refusals by
 -- number".
 -- A row is given if its condition holds and no earlier one does; the lowest index comes first.
-use Rattle.std.specs.Prelude.{ℕ, ◌*◌, ◌<◌, ◌≤◌, ◌≡◌, Bool, true, not, ◌&&◌, List, [], ◌∷◌, eqb, leb, length, Float}
+use Rattle.std.specs.Prelude.{ℕ, ◌*◌, ◌<◌, ◌≤◌, ◌≡◌, Bool, true, not, ◌&&◌, List, [], ◌∷◌, ◌==◌, nat_le, length, Float}
 use Rattle.std.specs.Result.{is_ok}
 use Rattle.std.specs.Float.Ieee.{le}
 use Rattle.numerics.specs.Binary64.{relative_tolerance}
-use Rattle.numerics.specs.Classify.{is_finite}
+use Rattle.std.specs.Float.{float_is_finite}
 use Rattle.numerics.specs.Vectors.{◌!◌, all_finite}
 use Rattle.refusal.specs.FirstRefusal.{CheckResult, refuse_unless, first_refusal, first_refusal_from}
 use Rattle.refusal.specs.declared.View.{View}
@@ -24,7 +24,7 @@ max_points = 65535
 
 -- row 1, the room apart
 abbrev pub has_matching_lengths : Problem → Bool
-has_matching_lengths p = eqb (length p.points) (3 * count p) && eqb (length p.view1) (2 * count p) && eqb (length p.view2) (2 * count p)
+has_matching_lengths p = ((length p.points) == (3 * count p)) && ((length p.view1) == (2 * count p)) && ((length p.view2) == (2 * count p))
 
 -- what rows 1 and 2 leave
 abbrev pub HasMatchingLengths : Problem → Type 0
@@ -36,7 +36,7 @@ check_inverse_standard_deviation inverse_standard_deviations i = refuse_unless (
 
 -- row 5
 unfoldable pub is_valid_baseline : Float → Bool
-is_valid_baseline x = is_finite x && not (le x relative_tolerance)
+is_valid_baseline x = float_is_finite x && not (le x relative_tolerance)
 
 -- row 6
 abbrev pub check_point : List Float → ℕ → CheckResult
@@ -70,7 +70,7 @@ check_values p =
     ∷ first_refusal_from (check_inverse_standard_deviation p.inverse_standard_deviations) 0 (count p)
     ∷ refuse_unless (is_valid_baseline p.rig.pose.baseline) Baseline
     ∷ first_refusal_from (check_point p.points) 0 (count p)
-    ∷ refuse_unless (leb min_points (count p)) TooFewPoints
+    ∷ refuse_unless (nat_le min_points (count p)) TooFewPoints
     ∷ check_both_views p
     ∷ [])
 
@@ -83,10 +83,10 @@ unfoldable pub check_readable : Problem → CheckResult
 check_readable p =
     first_refusal (
     refuse_unless (has_matching_lengths p) Lengths
-    ∷ refuse_unless (leb (count p) max_points) TooManyPoints
+    ∷ refuse_unless (nat_le (count p) max_points) TooManyPoints
     ∷ refuse_unless (is_valid_damping p.damping) Damping
     ∷ [])
 
 -- rows 1 to 9, the room apart
 unfoldable pub check_problem : Problem → CheckResult
-check_problem p = first_refusal (refuse_unless (has_matching_lengths p) Lengths ∷ refuse_unless (leb (count p) max_points) TooManyPoints ∷ check_values p ∷ [])
+check_problem p = first_refusal (refuse_unless (has_matching_lengths p) Lengths ∷ refuse_unless (nat_le (count p) max_points) TooManyPoints ∷ check_values p ∷ [])

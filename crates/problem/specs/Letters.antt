@@ -1,5 +1,5 @@
 -- The letter that a list gives a point, by its block.
-use Rattle.std.specs.Prelude.{ℕ, cond, Float, Ok, Err}
+use Rattle.std.specs.Prelude.{ℕ, if◌then◌else◌, Float, Ok, Err}
 use Rattle.point_block.specs.Damping.{is_zero}
 use Rattle.point_block.specs.Condition.{reciprocal_condition_number, is_weak}
 use Rattle.point_block.specs.FactorWithRcond.{factor}
@@ -11,7 +11,7 @@ use Rattle.problem.specs.declared.letters.BlockQuality.TheVariants.{NotFactored,
 unfoldable pub quality_of : LocalLinearization → Float → BlockQuality
 quality_of b damping =
     elim (factor b.point_hessian damping) [
-      | Ok f ↦ cond (is_zero damping) (cond (is_weak (reciprocal_condition_number f.inverse b.point_hessian)) Weak Good) Factored
+      | Ok f ↦ (if is_zero damping then (if is_weak (reciprocal_condition_number f.inverse b.point_hessian) then Weak else Good) else Factored)
       | Err r ↦ NotFactored
     ]
 

@@ -4,7 +4,7 @@
 // Rows 1 to 9 of a two-view problem over lent memory, which look at no sum:
 // kernel/two_view/optimizer.rs, residual.rs.
 
-ghost use Rattle.std.specs.Prelude.{◌≡◌, ◌<◌, ◌*◌, ◌&&◌, eqb, leb, true, Ok, T};
+ghost use Rattle.std.specs.Prelude.{◌≡◌, ◌<◌, ◌*◌, ◌&&◌, ◌==◌, nat_le, true, Ok, IsTrue};
 ghost use Rattle.std.specs.Result.{result_and};
 ghost use Rattle.refusal.specs.FirstRefusal as FirstRefusal;
 ghost use Rattle.point_block.specs.Damping.{is_valid_damping};
@@ -33,7 +33,7 @@ pub struct ReadableProblem<'a> {
 }
 
 impl<'a> Model for ReadableProblem<'a> {
-    ghost use Rattle.std.specs.Prelude.{◌≡◌, T};
+    ghost use Rattle.std.specs.Prelude.{◌≡◌, IsTrue};
     ghost use Rattle.point_block.specs.Damping.{is_valid_damping};
     ghost use Rattle.problem.specs.Problem.{Problem, of};
 
@@ -41,7 +41,7 @@ impl<'a> Model for ReadableProblem<'a> {
 
     ghost view = { λ r. of r.fitting.problem.now };
 
-    ghost invariant = { λ r. (r.damping ≡ r.fitting.problem.now.damping) × T (is_valid_damping r.damping) };
+    ghost invariant = { λ r. (r.damping ≡ r.fitting.problem.now.damping) × IsTrue (is_valid_damping r.damping) };
 }
 
 /// A problem that rows 1 to 9 let through, row 1 without the room
@@ -103,7 +103,7 @@ impl<'a> ReadableProblem<'a> {
     #[tactic(auto, using(crate::proofs::Passed::accepted_passes))]
     pub fn passes_rows_5_and_7(&self) -> bool
         ensures rows { result ≡ (Checks.is_valid_baseline self.now.rig.pose.baseline
-            && leb Checks.min_points (Problems.count self.now)) }
+            && nat_le Checks.min_points (Problems.count self.now)) }
         ensures passes { result ≡ true → Checks.AcceptsFirst self.now (Problems.count self.now)
             → Checks.check_problem self.now ≡ Ok tt }
     {
@@ -151,7 +151,7 @@ impl<'a> CheckedProblem<'a> {
 #[tactic(auto, using(crate::proofs::Parts::multiple))]
 fn belongs(length: usize, each: usize, n: usize) -> bool
     requires { 0 < each }
-    ensures { result ≡ eqb length (each * n) }
+    ensures { result ≡ (length == (each * n)) }
 {
     length / each == n && length % each == 0
 }
@@ -159,7 +159,7 @@ fn belongs(length: usize, each: usize, n: usize) -> bool
 // Rows 4 to 9, where row 3 lets the damping through
 #[tactic(auto, unfolding(crate::specs::Checks::check_values))]
 fn check_values(fitting: FittingProblem) -> Result<(), Refusal>
-    requires { T (is_valid_damping fitting.problem.now.damping) }
+    requires { IsTrue (is_valid_damping fitting.problem.now.damping) }
     ensures { result ≡ Checks.check_values (Problems.of fitting.entry.problem.now) }
 {
     check_inverse_standard_deviations(fitting)?;

@@ -11,7 +11,7 @@ use lib.Ieee.Bits.{is_true}
 use Rattle.std.specs.Prelude.{Err}
 use Rattle.refusal.specs.declared.Refusal.TheVariants.{NotProjectable}
 use Rattle.numerics.specs.Binary64.{◌⊕◌, ◌⊗◌}
-use Rattle.numerics.specs.Classify.{is_finite}
+use Rattle.std.specs.Float.{float_is_finite}
 use Rattle.numerics.specs.Vectors.{◌!◌}
 use Rattle.numerics.proofs.Finite.{finite_add, finite_mul}
 use Rattle.projection.specs.declared.PinholeCamera.{PinholeCamera}
@@ -21,12 +21,12 @@ use Rattle.projection.proofs.Laws.{behind, front_finite}
 
 -- a row of the rotation with its part of the translation
 record FiniteRow (a b c t : Float) : Type 0 where
-  first : T (is_finite a)
-  second : T (is_finite b)
-  third : T (is_finite c)
-  moved : T (is_finite t)
+  first : T (float_is_finite a)
+  second : T (float_is_finite b)
+  third : T (float_is_finite c)
+  moved : T (float_is_finite t)
 
-finite_row : (a b c t x y z : Float) → T (is_finite (a ⊗ x ⊕ b ⊗ y ⊕ c ⊗ z ⊕ t)) → FiniteRow a b c t
+finite_row : (a b c t x y z : Float) → T (float_is_finite (a ⊗ x ⊕ b ⊗ y ⊕ c ⊗ z ⊕ t)) → FiniteRow a b c t
 finite_row a b c t x y z h =
     let s = finite_add binary64 (a ⊗ x ⊕ b ⊗ y ⊕ c ⊗ z) t h in
     let u = finite_add binary64 (a ⊗ x ⊕ b ⊗ y) (c ⊗ z) s.0 in
@@ -55,7 +55,7 @@ module _ (rotation translation point : List Float) where
     unfolding rotate camera_point
     row₂ = finite_row _ _ _ _ (point ! 0) (point ! 1) (point ! 2) (front_finite moved h).2
 
-    rotation_finite : (i : ℕ) → i < 9 → T (is_finite (rotation ! i))
+    rotation_finite : (i : ℕ) → i < 9 → T (float_is_finite (rotation ! i))
     rotation_finite zero l = row₀.first
     rotation_finite (suc zero) l = row₀.second
     rotation_finite (suc (suc zero)) l = row₀.third
@@ -67,19 +67,19 @@ module _ (rotation translation point : List Float) where
     rotation_finite (suc (suc (suc (suc (suc (suc (suc (suc zero)))))))) l = row₂.third
     rotation_finite (suc (suc (suc (suc (suc (suc (suc (suc (suc i))))))))) l = absurd (omega arith)
 
-    translation_finite : (i : ℕ) → i < 3 → T (is_finite (translation ! i))
+    translation_finite : (i : ℕ) → i < 3 → T (float_is_finite (translation ! i))
     translation_finite zero l = row₀.moved
     translation_finite (suc zero) l = row₁.moved
     translation_finite (suc (suc zero)) l = row₂.moved
     translation_finite (suc (suc (suc i))) l = absurd (omega arith)
 
   -- where being in front would make x finite and it is not, nothing is projected
-  refused : (x : Float) → (T (is_in_front moved) → T (is_finite x)) → is_finite x ≡ false → (camera : PinholeCamera) (observation : List Float)
+  refused : (x : Float) → (T (is_in_front moved) → T (float_is_finite x)) → float_is_finite x ≡ false → (camera : PinholeCamera) (observation : List Float)
       → pixel_projection camera observation moved ≡ Err NotProjectable
   refused x k n camera observation = by (is_in_front moved) refl k
     where
-      by : (b : Bool) → is_in_front moved ≡ b → (T b → T (is_finite x)) → pixel_projection camera observation moved ≡ Err NotProjectable
-      by true e k = absurd (true≢false (sym (is_true (is_finite x) (k tt)) ∙ n))
+      by : (b : Bool) → is_in_front moved ≡ b → (T b → T (float_is_finite x)) → pixel_projection camera observation moved ≡ Err NotProjectable
+      by true e k = absurd (true≢false (sym (is_true (float_is_finite x) (k tt)) ∙ n))
       by false e k = behind camera observation moved e
 
 pub not_projectable : NonFinitePoseIsNotProjectable

@@ -8,7 +8,7 @@ use lib.Ieee.Fits.{and_l, and_r}
 use Rattle.std.specs.Prelude.{Result, Ok, Err, is_ok}
 use Rattle.refusal.specs.declared.Refusal.{Refusal}
 use Rattle.refusal.specs.declared.Refusal.TheVariants.{NotProjectable}
-use Rattle.numerics.specs.Classify.{is_finite}
+use Rattle.std.specs.Float.{float_is_finite}
 use Rattle.numerics.specs.Vectors.{◌!◌}
 use Rattle.numerics.proofs.Finite.{finite_sub}
 use Rattle.projection.specs.declared.PinholeCamera.{PinholeCamera}
@@ -77,12 +77,12 @@ module _ (camera : PinholeCamera) (observation point : List Float) where
       by false g t = refl
 
 -- what a point in front of the camera has: finite coordinates
-pub front_finite : (p : List Float) → T (is_in_front p) → T (is_finite (p ! 0)) × T (is_finite (p ! 1)) × T (is_finite (p ! 2))
+pub front_finite : (p : List Float) → T (is_in_front p) → T (float_is_finite (p ! 0)) × T (float_is_finite (p ! 1)) × T (float_is_finite (p ! 2))
 unfolding is_in_front
 front_finite p h =
-    let A = is_finite (p ! 0) in
-    let B = is_finite (p ! 1) in
-    let C = is_finite (p ! 2) in
+    let A = float_is_finite (p ! 0) in
+    let B = float_is_finite (p ! 1) in
+    let C = float_is_finite (p ! 2) in
     let k = and_l (A && B && C) _ h in
     (and_l A B (and_l (A && B) C k), and_r A B (and_l (A && B) C k), and_r (A && B) C k)
 
@@ -91,10 +91,10 @@ module _ (camera : PinholeCamera) (observation point : List Float) (e : is_ok (p
   tests : T (is_in_front point && all_finite (residual_and_jacobian camera observation point))
   tests = subst T (sym (projectable_is camera observation point ∙ e)) tt
 
-  pub point_finite : T (is_finite (point ! 0)) × T (is_finite (point ! 1)) × T (is_finite (point ! 2))
+  pub point_finite : T (float_is_finite (point ! 0)) × T (float_is_finite (point ! 1)) × T (float_is_finite (point ! 2))
   point_finite = front_finite point (and_l _ _ tests)
 
-  pub observation_finite : T (is_finite (observation ! 0)) × T (is_finite (observation ! 1))
+  pub observation_finite : T (float_is_finite (observation ! 0)) × T (float_is_finite (observation ! 1))
   unfolding all_finite residual_and_jacobian
   observation_finite =
       let residual = and_l _ _ (and_l _ _ (and_l _ _ (and_l _ _ (and_l _ _ (and_l _ _ (and_r (is_in_front point) _ tests)))))) in

@@ -2,7 +2,7 @@
 -- translation, as `linearize_point` of schur.rs does.
 use Rattle.std.specs.Prelude.{◌≡◌, false, List, [], ◌∷◌, ℕ, ◌<◌, Float, Err}
 use Rattle.numerics.specs.Binary64.{◌⊕◌, ◌⊗◌}
-use Rattle.numerics.specs.Classify.{is_finite}
+use Rattle.std.specs.Float.{float_is_finite}
 use Rattle.numerics.specs.Vectors.{◌!◌}
 use Rattle.refusal.specs.declared.Refusal.TheVariants.{NotProjectable}
 use Rattle.projection.specs.declared.PinholeCamera.{PinholeCamera}
@@ -22,9 +22,9 @@ camera_point rotated translation = rotated ! 0 ⊕ translation ! 0 ∷ rotated !
 -- What a pose with an entry that is not finite makes of the second view: no point is projected
 -- there, whatever the camera and the observation.
 pub record NonFinitePoseIsNotProjectable : Type 0 where
-  pub rotation : (rotation translation : List Float) (i : ℕ) → i < 9 → is_finite (rotation ! i) ≡ false
+  pub rotation : (rotation translation : List Float) (i : ℕ) → i < 9 → float_is_finite (rotation ! i) ≡ false
       → (camera : PinholeCamera) (observation point : List Float)
       → pixel_projection camera observation (camera_point (rotate rotation point) translation) ≡ Err NotProjectable
-  pub translation : (rotation translation : List Float) (i : ℕ) → i < 3 → is_finite (translation ! i) ≡ false
+  pub translation : (rotation translation : List Float) (i : ℕ) → i < 3 → float_is_finite (translation ! i) ≡ false
       → (camera : PinholeCamera) (observation point : List Float)
       → pixel_projection camera observation (camera_point (rotate rotation point) translation) ≡ Err NotProjectable

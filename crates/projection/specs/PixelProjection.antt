@@ -1,8 +1,9 @@
 -- `pixel_projection` of projection.rs, operation by operation in the Rust's order and association.
-use Rattle.std.specs.Prelude.{Bool, not, ◌&&◌, cond, List, [], ◌∷◌, Float, Result, Ok, Err, is_ok}
+use Rattle.std.specs.Prelude.{Bool, not, ◌&&◌, if◌then◌else◌, List, [], ◌∷◌, Float, Result, Ok, Err, is_ok}
 use Rattle.std.specs.Float.Ieee.{neg, le}
 use Rattle.numerics.specs.Binary64.{◌⊕◌, ◌⊖◌, ◌⊗◌, zero, relative_tolerance, recip}
-use Rattle.numerics.specs.Classify.{is_finite, abs}
+use Rattle.std.specs.Float.{float_is_finite}
+use Rattle.numerics.specs.Classify.{abs}
 use Rattle.numerics.specs.Vectors.{◌!◌, zeros}
 use Rattle.numerics.specs.Extrema.{fold_max}
 use Rattle.refusal.specs.declared.Refusal.{Refusal}
@@ -15,7 +16,7 @@ use Rattle.projection.specs.declared.TestedProjection.{TestedProjection}
 -- coordinate
 unfoldable pub is_in_front : List Float → Bool
 is_in_front point =
-    is_finite (point ! 0) && is_finite (point ! 1) && is_finite (point ! 2)
+    float_is_finite (point ! 0) && float_is_finite (point ! 1) && float_is_finite (point ! 2)
     && not (le (point ! 2) (relative_tolerance ⊗ fold_max (abs (point ! 0) ∷ abs (point ! 1) ∷ abs (point ! 2) ∷ [])))
 
 -- the residual, and the rows of the Jacobian
@@ -38,10 +39,10 @@ residual_and_jacobian camera observation point =
 
 unfoldable pub all_finite : Projection → Bool
 all_finite p =
-    is_finite (p.residual ! 0) && is_finite (p.residual ! 1) && is_finite (p.jacobian ! 0) && is_finite (p.jacobian ! 1) && is_finite (p.jacobian ! 2)
-    && is_finite (p.jacobian ! 3)
-    && is_finite (p.jacobian ! 4)
-    && is_finite (p.jacobian ! 5)
+    float_is_finite (p.residual ! 0) && float_is_finite (p.residual ! 1) && float_is_finite (p.jacobian ! 0) && float_is_finite (p.jacobian ! 1) && float_is_finite (p.jacobian ! 2)
+    && float_is_finite (p.jacobian ! 3)
+    && float_is_finite (p.jacobian ! 4)
+    && float_is_finite (p.jacobian ! 5)
 
 -- +0 everywhere: what stands beside a refusal
 abbrev pub zero_projection : Projection
@@ -51,7 +52,7 @@ zero_projection = record { residual = zeros 2; jacobian = zeros 6 }
 unfoldable pub pixel_projection : PinholeCamera → List Float → List Float → Result Projection Refusal
 pixel_projection camera observation point =
     let p = residual_and_jacobian camera observation point in
-    cond (is_in_front point) (cond (all_finite p) (Ok p) (Err NotProjectable)) (Err NotProjectable)
+    if is_in_front point then (if all_finite p then Ok p else Err NotProjectable) else Err NotProjectable
 
 -- the formulas' numbers, and whether they are refused
 abbrev pub tested_projection : PinholeCamera → List Float → List Float → TestedProjection

@@ -1,6 +1,6 @@
 -- The first refusal of several checks: a row is given if its condition holds and no earlier one
 -- does, and the lowest index comes first.
-use Rattle.std.specs.Prelude.{ℕ, zero, suc, Bool, cond, List, [], ◌∷◌, Result, Ok, Err}
+use Rattle.std.specs.Prelude.{ℕ, zero, suc, Bool, if◌then◌else◌, List, [], ◌∷◌, Result, Ok, Err}
 use Rattle.std.specs.Result.{result_and}
 use Rattle.refusal.specs.declared.Refusal.{Refusal}
 
@@ -9,7 +9,7 @@ abbrev pub CheckResult : Type 0
 CheckResult = Result (Unit {0}) Refusal
 
 abbrev pub refuse_unless : Bool → Refusal → CheckResult
-refuse_unless good r = cond good (Ok tt) (Err r)
+refuse_unless good r = if good then Ok tt else Err r
 
 -- the first refusal of a list
 abbrev pub first_refusal : List CheckResult → CheckResult

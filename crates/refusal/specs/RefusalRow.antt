@@ -1,6 +1,6 @@
 -- The refusals by their numbers: a row, a view and an index, the last two 0 where they have no
 -- sense.
-use Rattle.std.specs.Prelude.{ℕ, List, ◌++◌, Result, Ok, Err, codes}
+use Rattle.std.specs.Prelude.{ℕ, List, ◌++◌, codes}
 use Rattle.std.specs.Fmt.{decimal}
 use Rattle.refusal.specs.RowNumbers as RowNumbers
 use Rattle.refusal.specs.declared.Row.{Row}
@@ -45,10 +45,3 @@ refusal_text r =
     let numbers = row r in
     codes "refused " ++ decimal numbers.number ++ codes " " ++ decimal numbers.view ++ codes " "
     ++ decimal numbers.index
-
--- ---- answers
-
--- what f makes of the value, or the refusal
-abbrev pub map_ok : {A B : Type 0} → (A → B) → Result A Refusal → Result B Refusal
-map_ok f (Ok x) = Ok (f x)
-map_ok f (Err r) = Err r

@@ -12,7 +12,8 @@ use lib.Ieee.Digits.{size-lt, size-le, size_reaches}
 use lib.Ieee.Exact.{HasValue}
 use lib.Ieee.Positive.{first_pos}
 use Rattle.numerics.specs.Binary64 as Binary64
-use Rattle.numerics.specs.Classify.{is_finite, is_nonnegative, magnitude}
+use Rattle.std.specs.Float.{float_is_finite}
+use Rattle.numerics.specs.Classify.{is_nonnegative, magnitude}
 use Rattle.root.specs.Whole.{IsNearestRoot}
 use Rattle.root.specs.Root.{whole_root, nearest_root, sqrt, IsCorrectlyRounded}
 use native.Mathlib.Numerals.{add-one}
@@ -160,8 +161,8 @@ module _ (d k r t j : ℕ) (low_d : 2 ^ 104 ≤ d) (low_r : 2 ^ 52 ≤ r) (near 
 
 -- ---- the theorem
 
-value_finite : (x : Float) (a c : ℕ) → HasValue x false a c → T (is_finite x)
-unfolding is_finite
+value_finite : (x : Float) (a c : ℕ) → HasValue x false a c → T (float_is_finite x)
+unfolding float_is_finite
 value_finite nan a c h = h
 value_finite (inf s) a c h = h
 value_finite (fin s m e) a c h = tt
@@ -213,7 +214,7 @@ module _ (x : Float) (n d k r : ℕ) (is : sqrt x ≡ nearest_root n) (counts : 
   }
 
 -- The square root of every finite binary64 above zero is IEEE 754's.
-pub sqrt_correct : (x : Float) → T (fits binary64 x) → T (is_finite x) → T (lt Binary64.zero x) → IsCorrectlyRounded x (sqrt x)
+pub sqrt_correct : (x : Float) → T (fits binary64 x) → T (float_is_finite x) → T (lt Binary64.zero x) → IsCorrectlyRounded x (sqrt x)
 sqrt_correct x held finite positive = go (grid x held finite)
   where
     go : Grid x → IsCorrectlyRounded x (sqrt x)

@@ -10,7 +10,8 @@ use lib.Ieee.{Float, nan, inf, fin, binary64, low, down, size, odd, of_fields, o
 use lib.Ieee.Bits.{of_bits-to_bits}
 use lib.Ieee.Exact.{HasValue, odd_sign}
 use lib.Ieee.Fits.{down_pos}
-use Rattle.numerics.specs.Classify.{is_finite, magnitude}
+use Rattle.std.specs.Float.{float_is_finite}
+use Rattle.numerics.specs.Classify.{magnitude}
 
 pub magnitude_of : (x : Float) (s : Bool) (a : ℕ) → HasValue x s a (2 ^ low binary64) → magnitude x ≡ a
 unfolding magnitude
@@ -40,23 +41,23 @@ abbrev pub power : ℕ → ℕ
 power zero = 0
 power (suc x) = x
 
-fields_value : (s : Bool) (x t : ℕ) → T (is_finite (of_fields binary64 s x t)) → HasValue (of_fields binary64 s x t) s (digits x t * 2 ^ power x) (2 ^ low binary64)
-unfolding of_fields is_finite
+fields_value : (s : Bool) (x t : ℕ) → T (float_is_finite (of_fields binary64 s x t)) → HasValue (of_fields binary64 s x t) s (digits x t * 2 ^ power x) (2 ^ low binary64)
+unfolding of_fields float_is_finite
 fields_value s zero t h = odd_sign 53 s t 0 1074
 fields_value s (suc x) t h = go (eqb (suc x) (ones binary64)) (eqb t 0) h
   where
-    go : (a b : Bool) → T (is_finite (cond a (cond b (inf s) nan) (odd 53 s (2 ^ 52 + t) x 1074)))
+    go : (a b : Bool) → T (float_is_finite (cond a (cond b (inf s) nan) (odd 53 s (2 ^ 52 + t) x 1074)))
         → HasValue (cond a (cond b (inf s) nan) (odd 53 s (2 ^ 52 + t) x 1074)) s ((2 ^ 52 + t) * 2 ^ x) (2 ^ 1074)
     go true true k = absurd k
     go true false k = absurd k
     go false b k = odd_sign 53 s (2 ^ 52 + t) x 1074
 
-odd_finite : (d : ℕ) (s : Bool) (q k l : ℕ) → T (is_finite (odd d s q k l))
-unfolding odd is_finite
+odd_finite : (d : ℕ) (s : Bool) (q k l : ℕ) → T (float_is_finite (odd d s q k l))
+unfolding odd float_is_finite
 odd_finite d s zero k l = tt
 odd_finite d s (suc q) k l = tt
 
-fields_finite : (s : Bool) (x t : ℕ) → x < ones binary64 → T (is_finite (of_fields binary64 s x t))
+fields_finite : (s : Bool) (x t : ℕ) → x < ones binary64 → T (float_is_finite (of_fields binary64 s x t))
 unfolding of_fields
 fields_finite s zero t h = odd_finite 53 s t 0 1074
 fields_finite s (suc x) t h =
@@ -69,7 +70,7 @@ plain_fields b h =
     ap (λ (s : Bool). of_fields binary64 s (b % 2 ^ 63 / 2 ^ 52) (b % 2 ^ 52)) (lt-leb (2 ^ 63) b (omega arith))
     ∙ ap (λ (r : ℕ). of_fields binary64 false (r / 2 ^ 52) (b % 2 ^ 52)) (mod-eq_of_lt (let k : b < 2 ^ 63 = omega arith in k))
 
-pub plain_finite : (b : ℕ) → b < 0x7ff0_0000_0000_0000 → T (is_finite (of_bits binary64 b))
+pub plain_finite : (b : ℕ) → b < 0x7ff0_0000_0000_0000 → T (float_is_finite (of_bits binary64 b))
 plain_finite b h = rw plain_fields (fields_finite false (b / 2 ^ 52) (b % 2 ^ 52) (omega arith))
 
 pattern_value : (b : ℕ) → b < 0x7ff0_0000_0000_0000 → HasValue (of_bits binary64 b) false (digits (b / 2 ^ 52) (b % 2 ^ 52) * 2 ^ power (b / 2 ^ 52)) (2 ^ low binary64)
@@ -104,7 +105,7 @@ power_lt : (x : ℕ) → x < 2048 → power x < 2047
 power_lt zero h = omega arith
 power_lt (suc x) h = omega arith
 
-fields_grid : (s : Bool) (x t : ℕ) → x < 2048 → t < 2 ^ 52 → T (is_finite (of_fields binary64 s x t)) → Grid (of_fields binary64 s x t)
+fields_grid : (s : Bool) (x t : ℕ) → x < 2048 → t < 2 ^ 52 → T (float_is_finite (of_fields binary64 s x t)) → Grid (of_fields binary64 s x t)
 fields_grid s x t X H f = record {
   sign = s;
   count = digits x t;
@@ -114,9 +115,9 @@ fields_grid s x t X H f = record {
   place_lt = power_lt x X;
 }
 
-bits_grid : (b : ℕ) → T (is_finite (of_bits binary64 b)) → Grid (of_bits binary64 b)
+bits_grid : (b : ℕ) → T (float_is_finite (of_bits binary64 b)) → Grid (of_bits binary64 b)
 unfolding of_bits
 bits_grid b f = fields_grid (leb (2 ^ 63) b) (b % 2 ^ 63 / 2 ^ 52) (b % 2 ^ 52) (omega arith) (omega arith) f
 
-pub grid : (y : Float) → T (fits binary64 y) → T (is_finite y) → Grid y
+pub grid : (y : Float) → T (fits binary64 y) → T (float_is_finite y) → Grid y
 grid y h f = subst Grid (of_bits-to_bits binary64 y h) (bits_grid (to_bits binary64 y) (rw (of_bits-to_bits binary64 y h) f))

@@ -12,7 +12,7 @@ use lib.Ieee.Order.{le_of_values}
 use Rattle.std.proofs.lemmas.Float.{le_trans, lt_of_lt_of_le}
 use lib.Ieee.Bits.{is_true, of_bits-to_bits, nan_bits_is}
 use Rattle.numerics.specs.Binary64 as Binary64
-use Rattle.numerics.specs.Classify.{is_finite}
+use Rattle.std.specs.Float.{float_is_finite}
 use Rattle.numerics.proofs.Monotone.{finite_not_nan}
 use Rattle.root.specs.Root.{nearest_root, sqrt, IsCorrectlyRounded}
 use Rattle.root.proofs.Patterns.{low_value, normal_value, plain_finite}
@@ -68,7 +68,7 @@ low_of_least x f h = go (to_bits binary64 x) (leb (2 ^ 52) (to_bits binary64 x))
 
 -- the root of a finite one is IEEE 754's, and so it has a pattern that is read back
 correct : (x : Float) → T (fits binary64 x) → lt Binary64.zero x ≡ true → to_bits binary64 x < 0x7ff0_0000_0000_0000 → IsCorrectlyRounded x (sqrt x)
-correct x f l h = sqrt_correct x f (subst (λ (y : Float). T (is_finite y)) (of_bits-to_bits binary64 x f) (plain_finite (to_bits binary64 x) h)) (subst T (sym l) tt)
+correct x f l h = sqrt_correct x f (subst (λ (y : Float). T (float_is_finite y)) (of_bits-to_bits binary64 x f) (plain_finite (to_bits binary64 x) h)) (subst T (sym l) tt)
 
 no_nan_bits : (x : Float) → IsCorrectlyRounded x (sqrt x) → T (not (nan_bits binary64 (to_bits binary64 (sqrt x))))
 no_nan_bits x c =

@@ -5,7 +5,8 @@ use lib.Dec.{T}
 use lib.Ieee.{Float, nan, inf, fin, binary64}
 use lib.Ieee.Fits.{mul-fits}
 use Rattle.numerics.specs.Binary64.{◌⊕◌, ◌⊗◌, neg_zero}
-use Rattle.numerics.specs.Classify.{is_finite, is_nonnegative}
+use Rattle.std.specs.Float.{float_is_finite}
+use Rattle.numerics.specs.Classify.{is_nonnegative}
 use Rattle.numerics.proofs.Order.{nonneg_units, nonneg_add, nonneg_square}
 use Rattle.numerics.proofs.Monotone.{neg_zero_add, finite_not_nan}
 use Rattle.root.specs.Root.{nearest_root, sqrt}
@@ -23,7 +24,7 @@ nonneg_sqrt (fin s zero e) h = h
 nonneg_sqrt (fin true (suc m) e) h = absurd h
 nonneg_sqrt (fin false (suc m) e) h = nonneg_nearest_root _
 
-pub nonneg_sum_squares : (x y : Float) → T (is_finite x) → T (is_finite y) → T (is_nonnegative (sqrt (neg_zero ⊕ x ⊗ x ⊕ y ⊗ y)))
+pub nonneg_sum_squares : (x y : Float) → T (float_is_finite x) → T (float_is_finite y) → T (is_nonnegative (sqrt (neg_zero ⊕ x ⊗ x ⊕ y ⊗ y)))
 nonneg_sum_squares x y p q =
     nonneg_sqrt (neg_zero ⊕ x ⊗ x ⊕ y ⊗ y)
     (nonneg_add binary64 (neg_zero ⊕ x ⊗ x) (y ⊗ y) (rw (neg_zero_add (x ⊗ x) (mul-fits binary64 x x)) (nonneg_square binary64 x (finite_not_nan x p)))

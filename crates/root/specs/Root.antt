@@ -1,17 +1,17 @@
 -- The square root of binary64: IEEE 754's, correctly rounded, defined by comparing squares of
 -- whole numbers.
 use Prim.Native.Nat.{ℕ, zero, suc, ◌+◌, ◌-◌, ◌*◌, ◌/◌, ◌^◌, ◌<◌, compare}
-use Rattle.std.specs.Prelude.{true, false, cond, T, leb, Float}
-use Rattle.std.specs.Float.{nan, inf, fin, binary64}
+use Rattle.std.specs.Prelude.{true, false, if◌then◌else◌, T, nat_le, Float}
+use Rattle.std.specs.Float.{nan, inf, fin, binary64, float_is_finite}
 use Rattle.std.specs.Float.Ieee.{size, nearest, units, fits}
-use Rattle.numerics.specs.Classify.{is_finite, is_nonnegative, magnitude}
+use Rattle.numerics.specs.Classify.{is_nonnegative, magnitude}
 
 -- the whole part of the root of an n below 4 ^ d, digit by digit
 unfoldable pub whole_root : ℕ → ℕ → ℕ
 whole_root zero n = 0
 whole_root (suc d) n =
     let r = 2 * whole_root d (n / 4) in
-    cond (leb (suc r * suc r) n) (suc r) r
+    if nat_le (suc r * suc r) n then suc r else r
 
 -- √n, counted in units of 2 ^ -1074, with k of its digits dropped and the others, of which there
 -- are at most 53, kept as q. Half-way between q and q + 1 lies (2 * q + 1) * 2 ^ k / 2, whose
@@ -44,9 +44,9 @@ sqrt (fin false (suc m) e) = nearest_root (magnitude (fin false (suc m) e) * 2 ^
 -- further away than +0.)
 pub record IsCorrectlyRounded (x r : Float) : Type 0 where
   pub held : T (fits binary64 r)
-  pub finite : T (is_finite r)
+  pub finite : T (float_is_finite r)
   pub signless : T (is_nonnegative r)
-  pub below : (y : Float) → T (fits binary64 y) → T (is_finite y) → magnitude y < magnitude r
+  pub below : (y : Float) → T (fits binary64 y) → T (float_is_finite y) → magnitude y < magnitude r
       → (magnitude y + magnitude r) * (magnitude y + magnitude r) < 4 * (magnitude x * 2 ^ 1074)
-  pub above : (y : Float) → T (fits binary64 y) → T (is_finite y) → magnitude r < magnitude y
+  pub above : (y : Float) → T (fits binary64 y) → T (float_is_finite y) → magnitude r < magnitude y
       → 4 * (magnitude x * 2 ^ 1074) < (magnitude y + magnitude r) * (magnitude y + magnitude r)

@@ -8,12 +8,11 @@
 
 mod table;
 
-ghost use Rattle.std.specs.Prelude.{◌≡◌, ◌+◌, ◌*◌, ◌/◌, ◌^◌, ◌≤◌, ◌<◌, T};
+ghost use Rattle.std.specs.Prelude.{◌≡◌, ◌+◌, ◌*◌, ◌/◌, ◌^◌, ◌≤◌, ◌<◌, IsTrue};
 ghost use Rattle.std.specs.Float.Ieee as Ieee;
-ghost use Rattle.std.specs.Float.Ieee.{lt};
 ghost use Rattle.std.specs.Float.{binary64};
 ghost use Rattle.numerics.specs.Binary64.{zero};
-ghost use Rattle.numerics.specs.Classify.{is_finite};
+ghost use Rattle.std.specs.Float.{float_is_finite, ◌<ᶠ◌};
 ghost use Rattle.root.specs.Root as Root;
 ghost use Rattle.root.specs.Root.{IsCorrectlyRounded};
 ghost use Rattle.root.specs.Whole.{IsNearestRoot};
@@ -33,7 +32,7 @@ const LEAD: u64 = 0x10_0000_0000_0000;
 #[inline(never)]
 pub fn sqrt(x: f64) -> f64
     ensures result { result ≡ Root.sqrt x }
-    ensures nearest { T (is_finite x) → T (lt zero x) → IsCorrectlyRounded x result }
+    ensures nearest { IsTrue (float_is_finite x) → zero <ᶠ x → IsCorrectlyRounded x result }
 {
     if f64::MIN_POSITIVE <= x {
         let b = f64::to_bits(x);
@@ -101,8 +100,8 @@ fn radicand(m: u64, power: u64) -> u128
 // wraps to more than any 2 * root.
 fn is_nearest(n: u128, root: u64) -> bool
     requires { (0 < n) × (n < 2 ^ 106) }
-    ensures nearest { T result → IsNearestRoot n root }
-    ensures each { IsNearestRoot n root → T result }
+    ensures nearest { IsTrue result → IsNearestRoot n root }
+    ensures each { IsNearestRoot n root → IsTrue result }
 {
     let root = root as u128;
     (n + root - 1).wrapping_sub(root * root) < 2 * root

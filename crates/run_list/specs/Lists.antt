@@ -1,5 +1,5 @@
 -- The list of a run record: rows 14 and 15, then 3 to 9, then the lines.
-use Rattle.std.specs.Prelude.{ℕ, zero, suc, ◌≤◌, ◌≡◌, Bool, false, cond, List, [], ◌++◌, leb, length, Result, Ok, Err}
+use Rattle.std.specs.Prelude.{ℕ, zero, suc, ◌≤◌, ◌≡◌, Bool, false, if◌then◌else◌, List, [], ◌++◌, nat_le, length, Result, Ok, Err}
 use Rattle.std.specs.Result.{result_and}
 use Rattle.std.specs.Float.Ieee.{is_nan}
 use Rattle.refusal.specs.FirstRefusal.{CheckResult}
@@ -47,14 +47,14 @@ pub record NeverNan (r : List ℕ) : Type 0 where
 
 -- whether a list fits into a buffer, what is answered then, and what the buffer is
 abbrev pub fits_in : List ℕ → List ℕ → Bool
-fits_in r out = leb (length (list r)) (length out)
+fits_in r out = nat_le (length (list r)) (length out)
 
 abbrev pub list_result : List ℕ → List ℕ → Result ℕ TooSmall
-list_result r out = cond (fits_in r out) (Ok (length (list r))) (Err (record { needed = length (list r) }))
+list_result r out = if fits_in r out then Ok (length (list r)) else Err (record { needed = length (list r) })
 
 -- what `write_list` leaves: the list's length, or that it is too long; and the list in out,
 -- which is else as it was
 pub record WritesList (r out : List ℕ) (w : Result ℕ TooSmall) (after : List ℕ) : Type 0 where
   pub answer : w ≡ list_result r out
   pub bound : length (list r) ≤ max_list
-  pub same_out : after ≡ cond (fits_in r out) (with_text out 0 (list r)) out
+  pub same_out : after ≡ (if fits_in r out then with_text out 0 (list r) else out)

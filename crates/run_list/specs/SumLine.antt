@@ -1,5 +1,5 @@
 -- The line of a list's sums and of its verdict.
-use Rattle.std.specs.Prelude.{ℕ, Bool, ◌&&◌, cond, List, [], ◌∷◌, ◌++◌, eqb}
+use Rattle.std.specs.Prelude.{ℕ, Bool, ◌&&◌, if◌then◌else◌, List, [], ◌∷◌, ◌++◌, ◌==◌}
 use Rattle.schur.specs.Reduced.{is_valid}
 use Rattle.schur.specs.declared.reduced_system.ReducedSystem.{ReducedSystem}
 use Rattle.text.specs.Text.{space, line_feed, decimal}
@@ -7,10 +7,10 @@ use Rattle.run_list.specs.Lines.{bits_then}
 
 -- `y` or `n`; then `u` if it is `y` and the weak count is 0, else `x`
 abbrev pub validity : Bool → ℕ
-validity valid = cond valid 121 110
+validity valid = if valid then 121 else 110
 
 abbrev pub verdict : Bool → ℕ → ℕ
-verdict valid weak = cond (valid && eqb weak 0) 117 120
+verdict valid weak = if valid && (weak == 0) then 117 else 120
 
 -- `sum`, cost bits, squared residual bits, weak count, validity, verdict; of the system after
 -- pose damping

@@ -1,6 +1,6 @@
 -- The form of a run record: fields of one tag byte, two length bytes (low first) and a payload.
 -- Tags 1 to 5 are due in order, once each; then tag 6 for each point to the end.
-use Rattle.std.specs.Prelude.{ℕ, ◌+◌, ◌*◌, Bool, ◌&&◌, List, [], ◌∷◌, eqb, leb, length}
+use Rattle.std.specs.Prelude.{ℕ, ◌+◌, ◌*◌, Bool, ◌&&◌, List, [], ◌∷◌, ◌==◌, nat_le, length}
 use Rattle.refusal.specs.FirstRefusal.{CheckResult, refuse_unless, first_refusal, first_refusal_from}
 use Rattle.refusal.specs.declared.Refusal.TheVariants.{RecordTooLong, RecordForm}
 use Rattle.run_record.specs.declared.fields.Field.{Field}
@@ -13,7 +13,7 @@ max_record = 34559
 
 -- A field is broken if its tag or length is not the one due or it runs past the end.
 unfoldable pub is_whole : List ℕ → ℕ → ℕ → ℕ → Bool
-is_whole r tag size start = leb (start + 3 + size) (length r) && eqb (byte r start) tag && eqb (byte r (start + 1) + 256 * byte r (start + 2)) size
+is_whole r tag size start = nat_le (start + 3 + size) (length r) && ((byte r start) == tag) && ((byte r (start + 1) + 256 * byte r (start + 2)) == size)
 
 -- row 15: the byte where the broken field begins, which is the record's length if it ends there
 abbrev pub check_field : List ℕ → Field → ℕ → CheckResult
@@ -36,4 +36,4 @@ check_points r = first_refusal_from (λ i. check_field r Point (point_at i)) 0 (
 
 -- rows 14 and 15
 unfoldable pub check_form : List ℕ → CheckResult
-check_form r = first_refusal (refuse_unless (leb (length r) max_record) RecordTooLong ∷ check_header r ∷ check_points r ∷ [])
+check_form r = first_refusal (refuse_unless (nat_le (length r) max_record) RecordTooLong ∷ check_header r ∷ check_points r ∷ [])

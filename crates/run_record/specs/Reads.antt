@@ -2,7 +2,7 @@
 use Rattle.std.specs.Prelude.{ℕ, List, Result, Ok}
 use Rattle.std.specs.Result.{result_and}
 use Rattle.std.specs.Borrow.{Bor}
-use Rattle.refusal.specs.RefusalRow.{map_ok}
+use Rattle.refusal.specs.Chain.{map_ok}
 use Rattle.refusal.specs.declared.Refusal.{Refusal}
 use Rattle.run_record.specs.Fields.{payload}
 use Rattle.run_record.specs.Form.{check_field}

@@ -1,7 +1,7 @@
 // The reader of a record's fields: `field_at` over bytes and a place, and above it `Reader`, which
 // goes from field to field.
 
-ghost use Rattle.std.specs.Prelude.{◌≡◌, ◌≤◌, IfOk, OnOk, OnErr, eqb, length};
+ghost use Rattle.std.specs.Prelude.{◌≡◌, ◌≤◌, IfOk, OnOk, OnErr, ◌==◌, length};
 ghost use Rattle.run_record.specs.Fields as Fields;
 ghost use Rattle.run_record.specs.Form as Form;
 ghost use Rattle.run_record.specs.Reads as Reads;
@@ -54,7 +54,7 @@ impl<'a> Reader<'a> {
 
     // Whether no byte is left
     pub(crate) fn is_at_end(&self) -> bool
-        ensures { result ≡ eqb self.now.at (length self.now.bytes.now) }
+        ensures { result ≡ (self.now.at == (length self.now.bytes.now)) }
     {
         self.at == self.bytes.len()
     }

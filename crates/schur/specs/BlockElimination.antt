@@ -1,6 +1,6 @@
 -- What a block makes of a system's equations once its point is eliminated, and what it shows of
 -- itself: `add` of schur.rs. Document 01, "The system".
-use Rattle.std.specs.Prelude.{ℕ, suc, Bool, true, false, ◌&&◌, cond, List, Float, Ok, Err}
+use Rattle.std.specs.Prelude.{ℕ, suc, Bool, true, false, ◌&&◌, if◌then◌else◌, List, Float, Ok, Err}
 use Rattle.numerics.specs.Extrema.{min}
 use Rattle.numerics.specs.Binary64.{zero}
 use Rattle.point_block.specs.Damping.{is_zero}
@@ -11,7 +11,7 @@ use Rattle.schur.specs.SchurComplement.{reduced_hessian, reduced_gradient, point
 use Rattle.schur.specs.declared.reduced_system.ReducedSystem.{ReducedSystem}
 
 abbrev pub count_if : Bool → ℕ → ℕ
-count_if b n = cond b (suc n) n
+count_if b n = if b then suc n else n
 
 -- the equations after a block, and what the block shows of itself
 pub record Elimination : Type 0 where
@@ -29,7 +29,7 @@ unfactored s at_zero = record {
   hessian = s.hessian;
   gradient = s.gradient;
   point_model_reduction = s.point_model_reduction;
-  minimum_point_rcond = cond at_zero zero s.minimum_point_rcond;
+  minimum_point_rcond = if at_zero then zero else s.minimum_point_rcond;
   factored = false;
   weak = at_zero;
 }
@@ -40,7 +40,7 @@ after_elimination s b damping inverse = record {
   hessian = reduced_hessian s.hessian inverse b;
   gradient = reduced_gradient s.gradient inverse b;
   point_model_reduction = point_reduction s.point_model_reduction inverse b;
-  minimum_point_rcond = cond (is_zero damping) (min s.minimum_point_rcond (reciprocal_condition_number inverse b.point_hessian)) s.minimum_point_rcond;
+  minimum_point_rcond = if is_zero damping then min s.minimum_point_rcond (reciprocal_condition_number inverse b.point_hessian) else s.minimum_point_rcond;
   factored = true;
   weak = is_zero damping && is_weak (reciprocal_condition_number inverse b.point_hessian);
 }

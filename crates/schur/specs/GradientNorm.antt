@@ -1,5 +1,5 @@
 -- `scaled_gradient_inf_norm` of schur.rs. Document 01, "The system".
-use Rattle.std.specs.Prelude.{◌≡◌, ℕ, T, Bool, cond, false, List, [], ◌∷◌, Float}
+use Rattle.std.specs.Prelude.{◌≡◌, ℕ, IsTrue, Bool, if◌then◌else◌, false, List, [], ◌∷◌, Float}
 use Rattle.std.specs.Float.{inf}
 use Rattle.numerics.specs.Binary64.{◌⊗◌, ◌⊘◌, zero, relative_tolerance}
 use Rattle.numerics.specs.Classify.{abs, is_nonnegative, is_positive_finite}
@@ -13,18 +13,17 @@ scaled_entry value curvature floor = abs value ⊘ sqrt (max curvature floor)
 
 -- what gives that entry where the floor is clear of the sign
 pub record IsScaledEntry (value curvature floor r : Float) : Type 0 where
-  pub is : T (is_nonnegative floor) → r ≡ scaled_entry value curvature floor
+  pub is : IsTrue (is_nonnegative floor) → r ≡ scaled_entry value curvature floor
 
 -- 0 for an all-zero gradient, else +∞
 unfoldable pub norm_without_scale : Bool → Float
-norm_without_scale zeros = cond zeros zero (inf false)
+norm_without_scale zeros = if zeros then zero else inf false
 
 -- over n entries: without a scale where the largest diagonal entry is not positive and finite
 unfoldable pub scaled_gradient_inf_norm : ℕ → List Float → List Float → Float
 scaled_gradient_inf_norm n gradient diagonal =
     let scale = fold_max (tabulate n (λ i. diagonal ! i)) in
-    cond (is_positive_finite scale) (fold_max (tabulate n (λ i. scaled_entry (gradient ! i) (diagonal ! i) (relative_tolerance ⊗ scale))))
-    (norm_without_scale (all_zero (tabulate n (λ i. gradient ! i))))
+    if is_positive_finite scale then fold_max (tabulate n (λ i. scaled_entry (gradient ! i) (diagonal ! i) (relative_tolerance ⊗ scale))) else norm_without_scale (all_zero (tabulate n (λ i. gradient ! i)))
 
 -- the same of a point's gradient, scaled by the diagonal of its Hessian
 unfoldable pub point_gradient_norm : List Float → List Float → Float

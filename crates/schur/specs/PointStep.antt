@@ -1,11 +1,12 @@
 -- `point_step_with_damping_norm` of schur.rs: how a point moves with a step of the pose.
-use Rattle.std.specs.Prelude.{ℕ, ◌+◌, ◌*◌, cond, List, Float, Result, Ok, Err}
+use Rattle.std.specs.Prelude.{ℕ, ◌+◌, ◌*◌, List, Float, Result}
 use Rattle.std.specs.Float.Ieee.{neg}
 use Rattle.numerics.specs.Binary64.{◌⊕◌, ◌⊗◌, zero}
 use Rattle.numerics.specs.Vectors.{◌!◌, sum, tabulate, zeros}
 use Rattle.refusal.specs.declared.Refusal.{Refusal}
-use Rattle.refusal.specs.declared.Refusal.TheVariants.{Damping}
-use Rattle.point_block.specs.Damping.{is_valid_damping, damping_diagonal_of}
+use Rattle.refusal.specs.Chain.{◌>>=◌, map_ok}
+use Rattle.point_block.specs.Damping.{valid_damping, damping_diagonal_of}
+use Rattle.point_block.specs.declared.PointBlockFactor.{PointBlockFactor}
 use Rattle.point_block.specs.Factor.{solve}
 use Rattle.point_block.specs.FactorWithRcond.{factor, inverse_at}
 use Rattle.linearization.specs.declared.linearize.LocalLinearization.{LocalLinearization}
@@ -43,8 +44,8 @@ zero_point_step = record { step = zeros 3; damping_norm = zero }
 
 -- tests row 10
 unfoldable pub damped_step : PointTerms → Float → List Float → Result PointStep Refusal
-damped_step t damping pose_step = elim (factor t.point_hessian damping) [ Ok f ↦ Ok (step_by_inverse f.inverse t pose_step) | Err r ↦ Err r ]
+damped_step t damping pose_step = map_ok (λ (f : PointBlockFactor). step_by_inverse f.inverse t pose_step) (factor t.point_hessian damping)
 
 -- tests row 3, then row 10
 unfoldable pub point_step : LocalLinearization → Float → List Float → Result PointStep Refusal
-point_step b damping pose_step = cond (is_valid_damping damping) (damped_step (point_terms b) damping pose_step) (Err Damping)
+point_step b damping pose_step = valid_damping damping >>= (λ d. damped_step (point_terms b) d pose_step)

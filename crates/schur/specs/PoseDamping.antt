@@ -1,5 +1,5 @@
 -- The damping of the pose's equations, in `finish_damping` and `predicted_reduction` of schur.rs.
-use Rattle.std.specs.Prelude.{ℕ, ◌/◌, ◌%◌, cond, List, [], ◌∷◌, eqb, Float}
+use Rattle.std.specs.Prelude.{ℕ, ◌/◌, ◌%◌, if◌then◌else◌, List, [], ◌∷◌, ◌==◌, Float}
 use Rattle.numerics.specs.Binary64.{◌⊕◌, ◌⊗◌, relative_tolerance, min_positive}
 use Rattle.numerics.specs.Vectors.{◌!◌, sum, tabulate}
 use Rattle.numerics.specs.Extrema.{max, fold_max}
@@ -13,7 +13,7 @@ damping_diagonal d = tabulate 5 (λ i. max (d ! i) (pose_floor d))
 
 -- damping × the floored pose diagonal is added to the Hessian's diagonal alone
 unfoldable pub damped_entry : List Float → List Float → Float → ℕ → Float
-damped_entry h diagonal damping k = cond (eqb (k % 6) 0) (h ! k ⊕ damping ⊗ diagonal ! (k / 6)) (h ! k)
+damped_entry h diagonal damping k = if (k % 6) == 0 then h ! k ⊕ damping ⊗ diagonal ! (k / 6) else h ! k
 
 unfoldable pub damped_hessian : List Float → List Float → Float → List Float
 damped_hessian h d damping = tabulate 25 (damped_entry h (damping_diagonal d) damping)

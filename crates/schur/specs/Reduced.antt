@@ -1,12 +1,12 @@
 -- A new system, and what is asked of one once all blocks are taken in: `new`, `finish_damping`,
 -- `is_valid`, `scaled_gradient_inf_norm` and `predicted_reduction` of schur.rs.
-use Rattle.std.specs.Prelude.{Bool, true, ◌&&◌, cond, List, Float, Result, Ok, Err}
+use Rattle.std.specs.Prelude.{Bool, true, ◌&&◌, List, Float, Result}
 use Rattle.numerics.specs.Extrema.{max}
 use Rattle.numerics.specs.Binary64.{◌⊕◌, ◌⊖◌, ◌⊗◌, zero, half, one}
 use Rattle.numerics.specs.Vectors.{all_finite, zeros}
 use Rattle.refusal.specs.declared.Refusal.{Refusal}
-use Rattle.refusal.specs.declared.Refusal.TheVariants.{Damping}
-use Rattle.point_block.specs.Damping.{is_valid_damping}
+use Rattle.refusal.specs.Chain.{map_ok}
+use Rattle.point_block.specs.Damping.{valid_damping}
 use Rattle.schur.specs.GradientNorm.{scaled_gradient_inf_norm}
 use Rattle.schur.specs.PoseDamping.{damped_hessian, pose_damping_norm}
 use Rattle.schur.specs.PoseModel.{dot5, quadratic}
@@ -50,7 +50,7 @@ with_damping s damping = with_hessian s (damped_hessian s.hessian s.pose_diagona
 
 -- tests row 3
 unfoldable pub finish_damping : ReducedSystem → Float → Result ReducedSystem Refusal
-finish_damping s damping = cond (is_valid_damping damping) (Ok (with_damping s damping)) (Err Damping)
+finish_damping s damping = map_ok (with_damping s) (valid_damping damping)
 
 unfoldable pub is_valid : ReducedSystem → Bool
 is_valid s = s.valid && all_finite s.gradient && all_finite s.hessian
@@ -65,4 +65,4 @@ reduction_of s step damping point_damping_norm =
 
 -- tests row 3
 unfoldable pub predicted_reduction : ReducedSystem → List Float → Float → Float → Result Float Refusal
-predicted_reduction s step damping point_damping_norm = cond (is_valid_damping damping) (Ok (reduction_of s step damping point_damping_norm)) (Err Damping)
+predicted_reduction s step damping point_damping_norm = map_ok (λ d. reduction_of s step d point_damping_norm) (valid_damping damping)

@@ -1,13 +1,14 @@
 -- A block taken into the reduced system: `add` of schur.rs. Document 01, "The system".
-use Rattle.std.specs.Prelude.{ℕ, suc, ◌<◌, ◌≤◌, ◌&&◌, cond, leb, ltb, Float, Result, Ok, Err}
+use Rattle.std.specs.Prelude.{ℕ, suc, ◌<◌, ◌≤◌, ◌&&◌, if◌then◌else◌, nat_le, nat_lt, Float, Result, Ok, Err}
 use Rattle.numerics.specs.Extrema.{max}
 use Rattle.numerics.specs.Binary64.{◌⊕◌}
 use Rattle.std.specs.Result.{result_and}
+use Rattle.refusal.specs.Chain.{◌>>=◌}
 use Rattle.refusal.specs.Outcome.{outcome}
 use Rattle.refusal.specs.FirstRefusal.{CheckResult}
 use Rattle.refusal.specs.declared.Refusal.{Refusal}
-use Rattle.refusal.specs.declared.Refusal.TheVariants.{Damping, WeakCount, Full}
-use Rattle.point_block.specs.Damping.{is_valid_damping}
+use Rattle.refusal.specs.declared.Refusal.TheVariants.{WeakCount, Full}
+use Rattle.point_block.specs.Damping.{valid_damping}
 use Rattle.linearization.specs.declared.linearize.LocalLinearization.{LocalLinearization}
 use Rattle.schur.specs.GradientNorm.{point_gradient_norm}
 use Rattle.schur.specs.PoseModel.{sum5, diagonal5}
@@ -52,8 +53,7 @@ with_block s b damping = taken_by s b (elimination_of s b damping)
 -- rows 12 and 13
 abbrev pub check_room : ReducedSystem → CheckResult
 check_room s =
-    cond (leb s.weak_point_count s.block_count) (cond (ltb s.block_count max_blocks) (Ok tt) (Err Full))
-    (Err WeakCount)
+    if nat_le s.weak_point_count s.block_count then (if nat_lt s.block_count max_blocks then Ok tt else Err Full) else Err WeakCount
 
 -- `add` at a damping that row 3 lets through: rows 12 and 13, then the block taken in
 abbrev pub take_in : ReducedSystem → LocalLinearization → Float → Result ReducedSystem Refusal
@@ -62,9 +62,7 @@ take_in s b damping = result_and (check_room s) (Ok (with_block s b damping))
 -- `add` tests rows 3, 12, 13
 unfoldable pub add : ReducedSystem → LocalLinearization → Float → Result ReducedSystem Refusal
 add s b damping =
-    cond (is_valid_damping damping)
-    (cond (leb s.weak_point_count s.block_count) (cond (ltb s.block_count max_blocks) (Ok (with_block s b damping)) (Err Full)) (Err WeakCount))
-    (Err Damping)
+    valid_damping damping >>= take_in s b
 
 -- the system that a call leaves its caller with, the values of its answer: the one handed back,
 -- and, where it is refused, the one that the caller had

@@ -1,6 +1,6 @@
 -- `solve_positive_definite` of solver.rs at 5, row by row in the Rust's order. The products of an
 -- entry are summed from −0, an empty sum too: a − (−0) turns −0 into +0.
-use Rattle.std.specs.Prelude.{ℕ, ◌+◌, ◌*◌, fold, Bool, not, ◌&&◌, cond, List, [], ◌∷◌, Float, Result, Ok, Err}
+use Rattle.std.specs.Prelude.{ℕ, ◌+◌, ◌*◌, fold, Bool, not, ◌&&◌, if◌then◌else◌, List, [], ◌∷◌, Float, Result, Ok, Err}
 use Rattle.std.specs.List.{range_with_len}
 use Rattle.std.specs.Float.Ieee.{le}
 use Rattle.numerics.specs.Binary64.{◌⊕◌, ◌⊖◌, ◌⊗◌, ◌⊘◌, zero, neg_zero}
@@ -99,4 +99,4 @@ unfoldable pub solve_positive_definite : List Float → List Float → Result (L
 solve_positive_definite a b =
     let l = lower_of a in
     let x = solution l.entries b in
-    cond (all_finite a && all_finite b && has_valid_sums l.sums && all_finite x) (Ok x) (Err NotSolved)
+    if all_finite a && all_finite b && has_valid_sums l.sums && all_finite x then Ok x else Err NotSolved

@@ -1,9 +1,9 @@
 -- A number of 64 bits as sixteen capital hexadecimal digits, in ASCII.
-use Rattle.std.specs.Prelude.{ℕ, ◌+◌, ◌/◌, ◌%◌, ◌^◌, cond, List, [], ◌∷◌, ltb}
+use Rattle.std.specs.Prelude.{ℕ, ◌+◌, ◌/◌, ◌%◌, ◌^◌, if◌then◌else◌, List, [], ◌∷◌, nat_lt}
 
 -- the lowest digit of n: 0 to 9 are 48 to 57, and A to F are 65 to 70
 unfoldable pub digit : ℕ → ℕ
-digit n = cond (ltb (n % 16) 10) (48 + n % 16) (55 + n % 16)
+digit n = if nat_lt (n % 16) 10 then 48 + n % 16 else 55 + n % 16
 
 -- the digits of n, highest first
 abbrev pub digits : ℕ → List ℕ

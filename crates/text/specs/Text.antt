@@ -1,5 +1,5 @@
 -- Text in ASCII.
-use Rattle.std.specs.Prelude.{ℕ, zero, suc, ◌+◌, ◌-◌, ◌/◌, ◌%◌, ◌^◌, ◌≡◌, cond, List, [], ◌∷◌, ◌++◌, eqb, length, take, drop}
+use Rattle.std.specs.Prelude.{ℕ, zero, suc, ◌+◌, ◌-◌, ◌/◌, ◌%◌, ◌^◌, ◌≡◌, if◌then◌else◌, List, [], ◌∷◌, ◌++◌, ◌==◌, length, take, drop}
 use Rattle.text.specs.declared.Writer.{Writer}
 
 abbrev pub space : ℕ
@@ -30,7 +30,7 @@ ten_digits n =
 unfoldable pub without_leading_zeros : ℕ → List ℕ → List ℕ
 without_leading_zeros zero ds = ds
 without_leading_zeros (suc k) [] = []
-without_leading_zeros (suc k) (d ∷ ds) = cond (eqb d 48) (without_leading_zeros k ds) (d ∷ ds)
+without_leading_zeros (suc k) (d ∷ ds) = if d == 48 then without_leading_zeros k ds else d ∷ ds
 
 -- a number of 32 bits in decimal; zero is one digit
 unfoldable pub decimal : ℕ → List ℕ
