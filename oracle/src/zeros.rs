@@ -1,7 +1,7 @@
 //! Where the maximum or minimum of unlike zeros shows in a result.
 //!
-//! Rust leaves the sign open and the port fixes it: `max` gives +0, `min` gives
-//! -0. Five operations of the original can show it, all only on numbers that no
+//! Rust leaves the sign open and docs/SPECIFICATION.md, "Numbers", fixes it: `max`
+//! gives +0, `min` gives -0. Five operations of the original can show it, all only on numbers that no
 //! new system and no block maker produces (a diagonal entry, a gradient norm or
 //! a smallest rcond of -0):
 //!
