@@ -15,13 +15,14 @@
  *   row  1  a length does not fit
  *   row  2  more than 65,535 points
  *   row  3  damping not finite or below 0
- *   row  4  inverse deviation not finite or not above 0
+ *   row  4  inverse standard deviation not finite or not above 0
  *   row  5  baseline not finite or not above 2^-46
  *   row  6  point coordinate not finite
  *   row  7  fewer than 5 points
  *   row  8  observation not finite
  *   row  9  the point is not projectable
- *   row 10  the block does not factor, or the system is not valid
+ *   row 10  the block does not factor, or the system is not valid (a block did not factor, or the equations are
+ *           not finite)
  *   row 11  the system of five equations is not solved
  *   row 12  the system's weak count is above its block count
  *   row 13  the system has 65,535 blocks already
@@ -73,7 +74,7 @@ uint64_t pixel_step_damped_matrix(const double *matrix, size_t matrix_length, do
 uint64_t pixel_step_factor_damped(const double *matrix, size_t matrix_length,
                                   double *out, size_t out_length);
 
-/* The factor at a damping with its reciprocal condition number. Rows 3, 10. matrix (9); out: inverse, rcond (7) */
+/* The factor with rcond, at a damping: the inverse and the reciprocal condition number. Rows 3, 10. matrix (9); out (7) */
 uint64_t pixel_step_factor_new(const double *matrix, size_t matrix_length, double damping,
                                double *out, size_t out_length);
 
@@ -94,8 +95,9 @@ uint64_t pixel_step_solve_positive_definite(const double *a, size_t a_length,
 
 /*
  * The block of a point: what it adds to the system. Rows 4, 9; row 9 has view 1 or 2.
- * rig (29): camera 1 and camera 2, 5 each; rotation, 9; translation, 3; two basis vectors, 3 each; baseline
- * correspondence (8): point, 3; where view 1 and view 2 saw it, 2 each; inverse deviation
+ * rig (29): camera 1 and camera 2, 5 each; rotation, 9; translation, 3; translation basis, two vectors of 3;
+ * baseline
+ * correspondence (8): point, 3; where view 1 and view 2 saw it, 2 each; inverse standard deviation
  * out (59), a block: pose Hessian, 25; cross Hessian, 15; point Hessian, 9; pose gradient, 5; point gradient, 3;
  * cost; squared residual
  */
