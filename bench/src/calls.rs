@@ -23,7 +23,7 @@ pub struct Call {
 pub const CALLS: [Call; 6] = [
     call("root", false, root),
     call("projection", false, project),
-    call("factor, lone", true, factor),
+    call("factor with rcond", true, factor),
     call("block maker", false, make_block),
     call("`add`", true, add),
     call("whole step", true, step),

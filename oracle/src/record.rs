@@ -1,5 +1,5 @@
-//! The run record and its list, as document 01 describes them, around the
-//! original's block maker, factor and system.
+//! The run record and its list (docs/SPECIFICATION.md, "Run record" and "List")
+//! around the original's block maker, factor and system.
 
 use std::fmt::Write;
 
@@ -146,7 +146,7 @@ fn blocks(run: &Run) -> Result<Vec<Block>, Refusal> {
     run.correspondences.iter().enumerate().map(block).collect()
 }
 
-/// What the lone factor makes of a block; −0 counts as zero.
+/// What the factor with rcond makes of a block; −0 counts as zero.
 fn letter(block: &Block, damping: f64) -> char {
     let matrix = &block.point_hessian;
     match point_block::new(matrix, damping) {

@@ -5,7 +5,8 @@ use crate::projection::Camera;
 
 pub use reach::scaled_gradient_inf_norm;
 
-/// Everything but the correspondences: cameras, pose of the second, basis, baseline.
+/// Everything but the correspondences: cameras, pose of the second, translation
+/// basis, baseline.
 #[derive(Clone, Copy, Debug)]
 pub struct Rig {
     pub cameras: [Camera; 2],
@@ -46,7 +47,7 @@ impl Rig {
     }
 }
 
-/// One point, where each view saw it, and its inverse deviation.
+/// One point, where each view saw it, and its inverse standard deviation.
 #[derive(Clone, Copy, Debug)]
 pub struct Correspondence {
     pub point: [f64; 3],
@@ -125,13 +126,13 @@ fn part<const N: usize>(numbers: &[f64], start: usize) -> [f64; N] {
 }
 
 /// `linearize_point` with `Loss::L2`. `Err` holds the view, 1 or 2, that is not
-/// projectable. The inverse deviation is used as given.
+/// projectable. The inverse standard deviation is used as given.
 pub fn linearize_point(rig: &Rig, correspondence: &Correspondence) -> Result<Block, usize> {
     reach::linearize_point(rig, correspondence)
 }
 
 /// The same through the original's own noise model, which takes a standard
-/// deviation and uses its reciprocal. The correspondence's inverse deviation is not read.
+/// deviation and uses its reciprocal. The correspondence's own is not read.
 pub fn linearize_point_with_deviation(
     rig: &Rig,
     correspondence: &Correspondence,

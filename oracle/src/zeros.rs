@@ -1,9 +1,9 @@
 //! Where the maximum or minimum of unlike zeros shows in a result.
 //!
-//! Rust leaves the sign open and the port fixes it: `max` gives +0, `min` gives
-//! -0. Five operations of the original can show it, all only on numbers that no
-//! new system and no block maker produces (a diagonal entry, a gradient norm or
-//! a smallest rcond of -0):
+//! Rust leaves the sign open and docs/SPECIFICATION.md, "Numbers", fixes it: `max`
+//! gives +0, `min` gives -0. Five operations of the original can show it, all only
+//! on numbers that no new system and no block maker produces (a diagonal entry, a
+//! gradient norm or a smallest rcond of -0):
 //!
 //! - point_block.rs 108, `matrix[coordinate][coordinate].max(floor)`, where the floor underflows;
 //! - schur.rs 426, `curvature.max(floor)`, where the floor underflows;

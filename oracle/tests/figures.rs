@@ -1,4 +1,5 @@
-//! The bench figures that concern functions of the original.
+//! The figures of docs/SPECIFICATION.md, "Worked figures", that concern functions
+//! of the original.
 
 use oracle::flat::{all_same, same};
 use oracle::optimizer::{Problem, Refusal, limit_pose_step, whole_step};

@@ -73,7 +73,7 @@ fn no_problem_panics_and_no_point_step_is_refused() {
     }
 }
 
-/// The block is the same whether its inverse deviation is handed in or made by
+/// The block is the same whether its inverse standard deviation is handed in or made by
 /// the original's noise model, wherever that model has one.
 #[test]
 fn deviations_arrive_unchanged() {
@@ -102,7 +102,7 @@ fn deviations_arrive_unchanged() {
 }
 
 /// The original's noise model cannot give every number: no standard deviation
-/// has this reciprocal, so inverse deviations are handed in.
+/// has this reciprocal, so the reciprocals are handed in.
 #[test]
 fn some_inverse_deviations_have_no_deviation() {
     let wanted = 2.0_f64.next_down();

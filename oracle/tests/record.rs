@@ -1,4 +1,4 @@
-//! The run record's list: document 01's own, the stored samples, every cut and
+//! The run record's list: the sample of docs/SPECIFICATION.md, the stored samples, every cut and
 //! every broken field of a good record, and the original's own walk beside it.
 
 use std::collections::{BTreeMap, BTreeSet};
@@ -47,10 +47,10 @@ fn good(points: usize) -> Case {
 }
 
 #[test]
-fn document_01() {
+fn the_sample() {
     let expected = "run 5 0000000000000000\np 0 n\np 1 g\np 2 g\np 3 g\np 4 g\n\
                     sum 3FE0000000000000 3FF0000000000000 1 n x\n";
-    assert_eq!(text(&sample("document-01.plate")), expected);
+    assert_eq!(text(&sample("sample.plate")), expected);
 }
 
 /// Every stored list is given, and together they show every answer there is.

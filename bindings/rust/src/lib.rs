@@ -97,7 +97,7 @@ pub fn factor_damped(matrix: &[f64; 9]) -> Result<[f64; 6], Refusal> {
     filled(|out| slices::factor_damped(matrix, out))
 }
 
-/// The lone factor. Rows 3 and 10.
+/// The factor with rcond of the matrix at a damping. Rows 3 and 10.
 pub fn factor_new(matrix: &[f64; 9], damping: f64) -> Result<LoneFactor, Refusal> {
     let [inverse @ .., rcond] = filled::<7>(|out| slices::factor_new(matrix, damping, out))?;
     Ok(LoneFactor { inverse, rcond })

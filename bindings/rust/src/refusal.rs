@@ -3,8 +3,8 @@
 use std::error::Error;
 use std::fmt;
 
-/// The row of the specification's list, with view and index where these have a
-/// sense; otherwise they are 0.
+/// The row of docs/SPECIFICATION.md, "Refusals", with view and index where these
+/// have a sense; otherwise they are 0.
 #[derive(Clone, Copy, Debug, PartialEq, Eq)]
 pub struct Refusal {
     pub number: u8,

@@ -3,10 +3,10 @@
 
 use crate::{Refusal, filled, slices};
 
-/// Cameras, rotation, translation, basis and baseline.
+/// Cameras, rotation, translation, translation basis and baseline.
 pub type Rig = [f64; 29];
 
-/// A point, where both views saw it, and its inverse deviation.
+/// A point, where both views saw it, and its inverse standard deviation.
 pub type Correspondence = [f64; 8];
 
 /// What a point adds to the system.

@@ -1,4 +1,5 @@
-//! Figures of the specification and each refusal, through the static library.
+//! Figures of docs/SPECIFICATION.md, "Worked figures", and each refusal, through
+//! the static library.
 
 use pixel_step::{Refusal, slices};
 

@@ -1,4 +1,4 @@
-//! The sample plate of the specification, and each refusal of the block maker,
+//! The sample of docs/SPECIFICATION.md, "List", and each refusal of the block maker,
 //! the system and the point step, through the static library.
 
 use pixel_step::{Block, Correspondence, Refusal, Rig, System, slices};

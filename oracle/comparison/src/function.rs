@@ -222,7 +222,8 @@ pub struct Function {
     pub generate: fn(&mut Source) -> Input,
     /// The port's call: 0, or a refusal's code.
     pub port: fn(&Lent<'_>, &mut Rooms<'_>) -> u64,
-    /// The original's answer, with document 01's rule for unlike zeros.
+    /// The original's answer, with the rule for unlike zeros (docs/SPECIFICATION.md,
+    /// "Numbers"): `max` gives +0, and `min` gives −0.
     pub oracle: fn(&Input) -> Answer,
     /// The original's answer as it ran, where that rule can make a difference.
     pub plain: Option<fn(&Input) -> Answer>,
@@ -269,7 +270,7 @@ impl Function {
         Source::new(Source::new(base.wrapping_add(case)).next_bits())
     }
 
-    /// Whether document 01's rule for unlike zeros changes the answer.
+    /// Whether the rule for unlike zeros changes the answer.
     pub fn is_ruled(&self, input: &Input, answer: &Answer) -> bool {
         self.plain
             .is_some_and(|plain| !plain(input).same(answer, self.arguments))

@@ -27,7 +27,7 @@ const BYTES: u64 = 300_000;
 #[derive(Clone, Copy, PartialEq, Eq)]
 enum Class {
     Result,
-    /// A result that document 01's rule for zeros decides.
+    /// A result that the rule for unlike zeros decides.
     Ruled,
     Row(u8),
 }

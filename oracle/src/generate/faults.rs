@@ -11,9 +11,9 @@ use crate::projection::tangent_basis;
 pub enum Fault {
     /// All correspondences on the line through both lenses.
     OnLine,
-    /// A basis of zeros: the 5 by 5 solve has nothing to hold on to.
+    /// A translation basis of zeros: the 5 by 5 solve has nothing to hold on to.
     ZeroBasis,
-    /// Both basis vectors the same.
+    /// Both vectors of the translation basis the same.
     EqualBasis,
     /// All correspondences at one place.
     EqualPoints,

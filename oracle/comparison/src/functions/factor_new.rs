@@ -1,4 +1,4 @@
-//! The lone factor: row 3, then `PointBlockFactor::new` and its
+//! The factor with rcond: row 3, then `PointBlockFactor::new` and its
 //! `reciprocal_condition_number` on the undamped matrix.
 
 use oracle::point_block;

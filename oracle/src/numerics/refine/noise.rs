@@ -1,12 +1,12 @@
-//! How inverse deviations reach the original. Its own noise model takes
+//! How inverse standard deviations reach the original. Its own noise model takes
 //! standard deviations and gives their reciprocals, which do not reach every
-//! number; here each inverse deviation is handed in as given, with no arithmetic.
+//! number; here each one is handed in as given, with no arithmetic.
 
 use super::api;
 
 #[derive(Clone, Copy, Debug)]
 pub enum NoiseModel<'a> {
-    /// One inverse deviation per point, passed on unchanged.
+    /// One inverse standard deviation per point, passed on unchanged.
     Given(&'a [f64]),
     /// The original's model, to check that both ways agree where both exist.
     Original(api::NoiseModel<'a>),
