@@ -1,6 +1,6 @@
 -- A point in the second camera's frame, R p + t: rotated, then moved by the translation, as
--- `linearize_point` of schur.rs does (docs/SPECIFICATION.md, "Rig and correspondence"). The rotation
--- is nine numbers, row by row.
+-- `linearize_point` of schur.rs does (docs/SPECIFICATION.md, "Rig and correspondence"). The
+-- rotation is nine numbers, row by row.
 use Rattle.std.specs.Prelude.{◌≡◌, false, List, [], ◌∷◌, ℕ, ◌<◌, Float, Err}
 use Rattle.numerics.specs.Binary64.{◌⊕◌, ◌⊗◌}
 use Rattle.std.specs.Float.{float_is_finite}

@@ -21,27 +21,23 @@ is_in_front point =
     float_is_finite (point ! 0) && float_is_finite (point ! 1) && float_is_finite (point ! 2)
     && not (le (point ! 2) (relative_tolerance ⊗ largest))
 
--- The residual r and the rows of the Jacobian J, with d = 1 ÷ p₂, n = fx p₀ + skew p₁, and the
--- observation o:
+-- The residual r and the rows of the Jacobian J, with d = 1 ÷ p₂ the inverse depth,
+-- n = fx p₀ + skew p₁ the numerator of x, and o the observation:
 --     r₀ = n d + cx − o₀         J₀ = ( fx d,  skew d,  −n d² )
 --     r₁ = fy p₁ d + cy − o₁     J₁ = (  +0,    fy d,   −fy p₁ d² )
 unfoldable pub residual_and_jacobian : PinholeCamera → List Float → List Float → Projection
 residual_and_jacobian camera observation point =
-    let inverse_depth = recip (point ! 2) in
-    let inverse_depth_squared = inverse_depth ⊗ inverse_depth in
-    let x_numerator = camera.fx ⊗ point ! 0 ⊕ camera.skew ⊗ point ! 1 in
+    let d = recip (point ! 2) in
+    let d² = d ⊗ d in
+    let n = camera.fx ⊗ point ! 0 ⊕ camera.skew ⊗ point ! 1 in
     record {
       residual =
-          x_numerator ⊗ inverse_depth ⊕ camera.cx ⊖ observation ! 0
-          ∷ camera.fy ⊗ point ! 1 ⊗ inverse_depth ⊕ camera.cy ⊖ observation ! 1
+          n ⊗ d ⊕ camera.cx ⊖ observation ! 0
+          ∷ camera.fy ⊗ point ! 1 ⊗ d ⊕ camera.cy ⊖ observation ! 1
           ∷ [];
       jacobian =
-          camera.fx ⊗ inverse_depth
-          ∷ camera.skew ⊗ inverse_depth
-          ∷ neg x_numerator ⊗ inverse_depth_squared
-          ∷ zero
-          ∷ camera.fy ⊗ inverse_depth
-          ∷ neg camera.fy ⊗ point ! 1 ⊗ inverse_depth_squared
+          camera.fx ⊗ d ∷ camera.skew ⊗ d ∷ neg n ⊗ d²
+          ∷ zero ∷ camera.fy ⊗ d ∷ neg camera.fy ⊗ point ! 1 ⊗ d²
           ∷ [];
     }
 
@@ -62,7 +58,8 @@ abbrev pub zero_projection : Projection
 zero_projection = record { residual = zeros 2; jacobian = zeros 6 }
 
 -- Row 9 where the point is not in front of the camera, or an entry that comes out is not finite.
-unfoldable pub pixel_projection : PinholeCamera → List Float → List Float → Result Projection Refusal
+unfoldable pub pixel_projection
+    : PinholeCamera → List Float → List Float → Result Projection Refusal
 pixel_projection camera observation point =
     let p = residual_and_jacobian camera observation point in
     if is_in_front point

@@ -9,8 +9,8 @@ ghost use Rattle.projection.specs.CameraFrame as CameraFrame;
 
 use std::array;
 
-/// Where an entry of the rotation or of the translation is not finite, row 9 meets every point in the
-/// second view, whatever the camera and the observation. A theorem: nothing runs.
+/// Where an entry of the rotation or of the translation is not finite, row 9 meets every point in
+/// the second view, whatever the camera and the observation. A theorem: nothing runs.
 pub fn non_finite_pose_is_not_projectable()
     ensures { CameraFrame.NonFinitePoseIsNotProjectable }
 {}

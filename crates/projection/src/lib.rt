@@ -82,8 +82,8 @@ pub fn pixel_projection(
     }
 }
 
-/// The same with the verdict as a flag in place of row 9: a loop takes it by value, where a `Result`
-/// is copied.
+/// The same with the verdict as a flag in place of row 9: a loop takes it by value, where a
+/// `Result` is copied.
 #[tactic(auto, using(crate::proofs::Laws::projectable_is))]
 #[inline(always)]
 pub fn tested_projection(
