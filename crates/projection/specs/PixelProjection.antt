@@ -62,9 +62,7 @@ unfoldable pub pixel_projection
     : PinholeCamera → List Float → List Float → Result Projection Refusal
 pixel_projection camera observation point =
     let p = residual_and_jacobian camera observation point in
-    if is_in_front point
-    then (if all_finite p then Ok p else Err NotProjectable)
-    else Err NotProjectable
+    if is_in_front point && all_finite p then Ok p else Err NotProjectable
 
 -- the projection by the formulas alone, and whether it is let through
 abbrev pub tested_projection : PinholeCamera → List Float → List Float → TestedProjection
