@@ -7,7 +7,8 @@ use Rattle.std.specs.Float.{float_is_finite}
 use Rattle.numerics.specs.Vectors.{◌!◌, tabulate}
 use Rattle.refusal.specs.FirstRefusal.{CheckResult, refuse_unless, first_refusal}
 use Rattle.refusal.specs.declared.View.TheVariants.{First, Second}
-use Rattle.refusal.specs.declared.Refusal.TheVariants.{InverseStandardDeviation, PointNotProjectable}
+use Rattle.refusal.specs.declared.Refusal.TheVariants.{InverseStandardDeviation}
+use Rattle.refusal.specs.declared.Refusal.TheVariants.{PointNotProjectable}
 use Rattle.projection.specs.CameraFrame.{rotate, camera_point}
 use Rattle.projection.specs.PixelProjection.{residual_and_jacobian, pixel_projection}
 use Rattle.projection.specs.declared.Projection.{Projection}

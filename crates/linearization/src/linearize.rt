@@ -13,8 +13,8 @@ use crate::{accumulate, loss, terms, views};
 use refusal::Refusal;
 
 /// A point's block, `LocalLinearization` of kernel/two_view/schur.rs: the sums over both views of
-/// the products of their weighted residual r, pose Jacobian J_p and point Jacobian J_x. Matrices are
-/// row by row.
+/// the products of their weighted residual r, pose Jacobian J_p and point Jacobian J_x. Matrices
+/// are row by row.
 #[derive(Clone, Copy)]
 pub struct LocalLinearization {
     /// H_pp = Σ J_pᵀ J_p, five rows of five

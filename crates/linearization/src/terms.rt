@@ -23,7 +23,10 @@ pub struct PointTerms {
 }
 
 /// The terms of the block that `block_of` gives for the correspondence
-#[tactic(auto, unfolding(crate::specs::Linearize::block_of, crate::specs::Linearize::point_terms, crate::specs::Linearize::block, crate::specs::Linearize::sums))]
+#[rattlefmt::skip]
+#[tactic(auto, unfolding(
+    crate::specs::Linearize::block_of, crate::specs::Linearize::block,
+    crate::specs::Linearize::sums, crate::specs::Linearize::point_terms))]
 #[inline(always)]
 pub fn terms_of(rig: &Rig, correspondence: Correspondence) -> PointTerms
     ensures { result ≡ Linearize.point_terms (Linearize.block_of rig.now correspondence) }

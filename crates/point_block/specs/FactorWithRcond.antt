@@ -4,7 +4,8 @@ use Rattle.std.specs.Prelude.{List, Float, Result}
 use Rattle.numerics.specs.Binary64.{zero}
 use Rattle.refusal.specs.declared.Refusal.{Refusal}
 use Rattle.refusal.specs.Chain.{◌>>=◌, map_ok}
-use Rattle.point_block.specs.Damping.{valid_damping, damping_diagonal_of, with_added_diagonal, damped_matrix}
+use Rattle.point_block.specs.Damping.{valid_damping, damping_diagonal_of, with_added_diagonal}
+use Rattle.point_block.specs.Damping.{damped_matrix}
 use Rattle.point_block.specs.declared.PointBlockFactor.{PointBlockFactor}
 use Rattle.point_block.specs.declared.ConditionedFactor.{ConditionedFactor}
 use Rattle.point_block.specs.Cholesky.{inverse_by}

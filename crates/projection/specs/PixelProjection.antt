@@ -1,7 +1,8 @@
 -- The projection of a point p = (p₀, p₁, p₂) in a camera's frame, less what was observed, with its
 -- Jacobian by p: `pixel_projection` of projection.rs, operation by operation in the Rust's order
 -- (docs/SPECIFICATION.md, "Projection"). A camera is fx, fy, cx, cy and skew, in pixels.
-use Rattle.std.specs.Prelude.{Bool, not, ◌&&◌, if◌then◌else◌, List, [], ◌∷◌, Float, Result, Ok, Err, is_ok}
+use Rattle.std.specs.Prelude.{Bool, not, ◌&&◌, if◌then◌else◌, List, [], ◌∷◌, Float, Result, Ok, Err}
+use Rattle.std.specs.Prelude.{is_ok}
 use Rattle.std.specs.Float.Ieee.{neg, le}
 use Rattle.numerics.specs.Binary64.{◌⊕◌, ◌⊖◌, ◌⊗◌, zero, relative_tolerance, recip}
 use Rattle.std.specs.Float.{float_is_finite}

@@ -1,7 +1,8 @@
 -- Five equations A x = b by Cholesky's method, A = L Lᵀ: `solve_positive_definite` of solver.rs, at
 -- 5 unknowns (docs/SPECIFICATION.md, "Solve"). A matrix is 25 numbers, row by row: the entry of
 -- row i and column j stands at 5 i + j, and that on the diagonal at 6 i.
-use Rattle.std.specs.Prelude.{ℕ, ◌+◌, ◌-◌, ◌*◌, ◌==◌, fold, set, Bool, not, ◌&&◌, if◌then◌else◌, List, Float, Result, Ok, Err}
+use Rattle.std.specs.Prelude.{ℕ, ◌+◌, ◌-◌, ◌*◌, ◌==◌, fold, set, Bool, not, ◌&&◌, if◌then◌else◌}
+use Rattle.std.specs.Prelude.{List, Float, Result, Ok, Err}
 use Rattle.std.specs.List.{range_with_len}
 use Rattle.std.specs.Float.Ieee.{le}
 use Rattle.numerics.specs.Binary64.{◌⊕◌, ◌⊖◌, ◌⊗◌, ◌⊘◌, zero, neg_zero}
