@@ -25,7 +25,7 @@ use Rattle.point_block.specs.Damping.{is_valid_damping, is_zero}
 use Rattle.point_block.specs.FactorWithRcond.{factor, factor_with_rcond}
 use Rattle.point_block.specs.declared.PointBlockFactor.{PointBlockFactor}
 use Rattle.point_block.specs.declared.ConditionedFactor.{ConditionedFactor}
-use Rattle.point_block.proofs.Laws.{lone_factors, rcond_nonneg}
+use Rattle.point_block.proofs.Laws.{factors_with_rcond, rcond_nonneg}
 use Rattle.linearization.specs.declared.linearize.LocalLinearization.{LocalLinearization}
 use Rattle.schur.specs.declared.reduced_system.ReducedSystem.{ReducedSystem}
 use Rattle.schur.specs.Reduced.{new_system}
@@ -69,7 +69,7 @@ module _ (d : Float) (good : is_valid_damping d ≡ true) where
 
   same_factor : (b : LocalLinearization) → is_ok (factor b.point_hessian d) ≡ factors d b
   unfolding factors
-  same_factor b = sym (lone_factors b.point_hessian d good)
+  same_factor b = sym (factors_with_rcond b.point_hessian d good)
 
   -- the lone factor's answer, by the factor's
   abbrev lone_of : LocalLinearization → Result PointBlockFactor Refusal → Result ConditionedFactor Refusal

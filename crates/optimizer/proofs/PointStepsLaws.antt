@@ -12,7 +12,7 @@ use Rattle.refusal.specs.declared.Refusal.{Refusal}
 use Rattle.point_block.specs.Damping.{is_valid_damping}
 use Rattle.point_block.specs.FactorWithRcond.{factor, inverse_at}
 use Rattle.point_block.specs.declared.PointBlockFactor.{PointBlockFactor}
-use Rattle.point_block.proofs.Laws.{lone_factors, factor_is}
+use Rattle.point_block.proofs.Laws.{factors_with_rcond, factor_is}
 use Rattle.linearization.specs.Linearize.{block_of, point_terms}
 use Rattle.linearization.specs.declared.terms.PointTerms.{PointTerms}
 use Rattle.linearization.specs.declared.views.Correspondence.{Correspondence}
@@ -33,7 +33,7 @@ use Rattle.optimizer.proofs.Blocks.{added, block_factors}
 -- a block that factors has the step of the formulas
 damped_steps : (b : LocalLinearization) (d : Float) (s : List Float) → is_valid_damping d ≡ true → factors d b ≡ true → damped_step (point_terms b) d s ≡ Ok (Point.step_at (point_terms b) d s)
 unfolding damped_step point_terms factors
-damped_steps b d s g e = by (factor b.point_hessian d) refl (sym (lone_factors b.point_hessian d g) ∙ e)
+damped_steps b d s g e = by (factor b.point_hessian d) refl (sym (factors_with_rcond b.point_hessian d g) ∙ e)
   where
     step_by : Result PointBlockFactor Refusal → Result PointStep Refusal
     step_by f = elim f [ Ok k ↦ Ok (step_by_inverse k.inverse (point_terms b) s) | Err q ↦ Err q ]
