@@ -24,8 +24,8 @@ pub record Elimination : Type 0 where
   pub factored : Bool
   pub weak : Bool
 
--- A block that does not factor leaves the equations as they are. At damping zero, and there only, it
--- is weak and the smallest rcond becomes +0.
+-- A block that does not factor leaves the equations as they are. At damping zero, and there only,
+-- it is weak and the smallest rcond becomes +0.
 unfoldable pub elimination_without_factor : ReducedSystem → Bool → Elimination
 elimination_without_factor s at_zero = record {
   hessian = s.hessian;
@@ -39,7 +39,8 @@ elimination_without_factor s at_zero = record {
 -- A block that factors, with its packed inverse: the Schur complement of its point enters the
 -- equations. At damping zero, and there only, the smallest rcond becomes the smaller of it and the
 -- block's, and the block is weak where its rcond ≤ 192ε.
-unfoldable pub elimination_by_inverse : ReducedSystem → LocalLinearization → Float → List Float → Elimination
+unfoldable pub elimination_by_inverse :
+    ReducedSystem → LocalLinearization → Float → List Float → Elimination
 elimination_by_inverse s b damping inverse =
     let rcond = reciprocal_condition_number inverse b.point_hessian in record {
       hessian = reduced_hessian s.hessian inverse b;

@@ -20,14 +20,14 @@ pub record IsScaledEntry (value curvature floor r : Float) : Type 0 where
 unfoldable pub norm_without_scale : Bool → Float
 norm_without_scale zeros = if zeros then zero else inf false
 
--- The largest scaled entry of n, with 64ε times the largest curvature as the floor. Where the largest
--- curvature is not positive and finite there is no scale.
+-- The largest of n scaled entries, with 64ε times the largest curvature as the floor. Where the
+-- largest curvature is not positive and finite there is no scale.
 unfoldable pub scaled_gradient_inf_norm : ℕ → List Float → List Float → Float
 scaled_gradient_inf_norm n gradient diagonal =
     let scale = fold_max (tabulate n (λ i. diagonal ! i)) in
-    let scaled = λ (i : ℕ). scaled_entry (gradient ! i) (diagonal ! i) (relative_tolerance ⊗ scale) in
+    let floor = relative_tolerance ⊗ scale in
     if is_positive_finite scale
-    then fold_max (tabulate n scaled)
+    then fold_max (tabulate n (λ i. scaled_entry (gradient ! i) (diagonal ! i) floor))
     else norm_without_scale (all_zero (tabulate n (λ i. gradient ! i)))
 
 -- that of a point's gradient, by the diagonal of its Hessian

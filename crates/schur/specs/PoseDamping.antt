@@ -14,8 +14,8 @@ pose_floor d =
 unfoldable pub damping_diagonal : List Float → List Float
 damping_diagonal d = tabulate 5 (λ i. max (d ! i) (pose_floor d))
 
--- Entry k of the damped Hessian, by its damping diagonal: on the diagonal, which is every sixth entry,
--- with damping times the entry of the damping diagonal added; elsewhere as it was.
+-- Entry k of the damped Hessian. On the diagonal, which is every sixth entry, damping times the
+-- damping diagonal's entry is added; elsewhere it stays.
 unfoldable pub damped_entry : List Float → List Float → Float → ℕ → Float
 damped_entry h diagonal damping k =
     if (k % 6) == 0 then h ! k ⊕ damping ⊗ diagonal ! (k / 6) else h ! k

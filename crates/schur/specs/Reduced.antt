@@ -48,7 +48,8 @@ gradient_inf_norm s =
     max s.scaled_point_gradient_inf_norm
     (scaled_gradient_inf_norm 5 s.full_pose_gradient s.pose_diagonal)
 
--- What a step s of the pose is predicted to gain, with S the Hessian as it stands and g the gradient:
+-- What a step s of the pose is predicted to gain, with S the Hessian as it stands and g the
+-- gradient:
 --   reduction of the points − gᵀs − ½ sᵀSs + ½ damping (pose damping norm + point damping norm)
 unfoldable pub reduction_of : ReducedSystem → List Float → Float → Float → Float
 reduction_of s step damping point_damping_norm =
@@ -57,6 +58,7 @@ reduction_of s step damping point_damping_norm =
     ⊕ half ⊗ damping ⊗ damping_norm
 
 -- row 3, and then that prediction
-unfoldable pub predicted_reduction : ReducedSystem → List Float → Float → Float → Result Float Refusal
+unfoldable pub predicted_reduction :
+    ReducedSystem → List Float → Float → Float → Result Float Refusal
 predicted_reduction s step damping point_damping_norm =
     map_ok (λ d. reduction_of s step d point_damping_norm) (valid_damping damping)

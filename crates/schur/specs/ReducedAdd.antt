@@ -1,6 +1,7 @@
 -- A block taken into the reduced system, with its point eliminated: `add` of schur.rs.
 -- docs/SPECIFICATION.md, "Reduced system".
-use Rattle.std.specs.Prelude.{ℕ, suc, ◌<◌, ◌≤◌, ◌&&◌, if◌then◌else◌, nat_le, nat_lt, Float, Result, Ok, Err}
+use Rattle.std.specs.Prelude.{ℕ, suc, ◌<◌, ◌≤◌, ◌&&◌, if◌then◌else◌, nat_le, nat_lt}
+use Rattle.std.specs.Prelude.{Float, Result, Ok, Err}
 use Rattle.numerics.specs.Extrema.{max}
 use Rattle.numerics.specs.Binary64.{◌⊕◌}
 use Rattle.std.specs.Result.{result_and}

@@ -14,8 +14,8 @@ use linearization::LocalLinearization;
 use point_block::PointBlockFactor;
 use std::array;
 
-// S += H_pp − H_px H_xx⁻¹ H_pxᵀ. A row at a time: by `array::from_fn` over 25 entries a call is left,
-// and the matrices go through memory.
+// S += H_pp − H_px H_xx⁻¹ H_pxᵀ. A row at a time: by `array::from_fn` over 25 entries a call is
+// left, and the matrices go through memory.
 #[tactic(auto, using(numerics::proofs::Fill::array_none, numerics::proofs::Fill::row_of_five))]
 #[inline(always)]
 pub(crate) fn reduced_hessian(

@@ -19,8 +19,8 @@ use refusal::Refusal;
 // The most blocks that a system takes in
 const MAX_BLOCKS: u16 = 65535;
 
-/// The system with a block taken in at a damping, by value. Refuses: row 3, then row 12, then row 13.
-/// docs/SPECIFICATION.md, "Reduced system".
+/// The system with a block taken in at a damping, by value. Refuses: row 3, then row 12, then
+/// row 13. docs/SPECIFICATION.md, "Reduced system".
 #[tactic(auto, unfolding(crate::specs::ReducedAdd::add))]
 pub fn add(
     mut system: ReducedSystem,

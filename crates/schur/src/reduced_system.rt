@@ -15,8 +15,8 @@ use numerics::{extrema, vectors};
 use point_block::point_damping::ValidDamping;
 use refusal::Refusal;
 
-/// The equations of the pose, with the sums and the counts over the blocks taken in. The pose's five
-/// parameters are three of rotation and two along the translation basis.
+/// The equations of the pose, with the sums and the counts over the blocks taken in. The pose has
+/// five parameters, three of rotation and two along the translation basis.
 /// docs/SPECIFICATION.md, "Reduced system".
 #[derive(Clone, Copy)]
 pub struct ReducedSystem {

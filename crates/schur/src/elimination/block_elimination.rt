@@ -25,7 +25,8 @@ pub(crate) fn eliminate(
     damping: ValidDamping,
 ) -> bool
     requires { system.old.weak_point_count < ReducedAdd.max_blocks }
-    ensures factored { result ≡ (BlockElimination.elimination_of system.old local damping).factored }
+    ensures factored { result
+        ≡ (BlockElimination.elimination_of system.old local damping).factored }
     ensures system { let e = BlockElimination.elimination_of system.old local damping in
         system.new ≡ record system.old {
           hessian = e.hessian;
