@@ -26,14 +26,13 @@ use Rattle.point_block.specs.Condition.{reciprocal_condition_number, is_weak}
 use Rattle.point_block.specs.Damping.{is_valid_damping, is_zero}
 use Rattle.point_block.specs.FactorWithRcond.{factor, factor_with_rcond}
 use Rattle.point_block.specs.declared.PointBlockFactor.{PointBlockFactor}
-use Rattle.point_block.specs.declared.ConditionedFactor.{ConditionedFactor}
-use Rattle.point_block.proofs.Laws.{lone_factors, rcond_nonneg}
+use Rattle.point_block.proofs.Laws.{rcond_nonneg}
 use Rattle.linearization.specs.declared.linearize.LocalLinearization.{LocalLinearization}
 use Rattle.schur.specs.declared.reduced_system.ReducedSystem.{ReducedSystem}
 use Rattle.schur.specs.Reduced.{new_system}
 use Rattle.schur.specs.SchurComplement.{reduced_hessian, reduced_gradient, point_reduction}
-use Rattle.schur.specs.BlockElimination.{Elimination, count_if, elimination_without_factor, elimination_by_inverse, elimination_of}
-use Rattle.schur.proofs.FactorCases.{elimination_cases}
+use Rattle.schur.specs.BlockElimination.{count_if, elimination_without_factor, elimination_by_inverse, elimination_of}
+use Rattle.schur.proofs.FactorCases.{factor_cases}
 use Rattle.schur.proofs.Room.{blocks_taken, weak_taken_at_most}
 use Rattle.schur.specs.ReducedAdd.{max_blocks, with_block, add, system_after}
 use Rattle.add_sequences.specs.Calls.{Inputs, linearization_of, Call, Add, RefusedAdd, system_after_call, call_results, system_after_calls, system_after_blocks, Counters, factors, is_ill_conditioned, has_room, count_block, count_calls, refusals_of, blocks_taken_in}
@@ -63,73 +62,44 @@ module _ (d : Float) (good : is_valid_damping d ≡ true) where
 
   -- ---- a block taken in: whether it factors, and its rcond, are the answer of `factor_with_rcond`
 
-  abbrev inverse_in : Result PointBlockFactor Refusal → List Float
-  inverse_in (Ok f) = f.inverse
-  inverse_in (Err r) = []
+  module _ (b : LocalLinearization) where
+    factors_if : (f : PointBlockFactor) → factor b.point_hessian d ≡ Ok f → factors d b ≡ true
+    unfolding factors factor_with_rcond
+    factors_if f h = rw (good, h) refl
 
-  abbrev inverse : LocalLinearization → List Float
-  inverse b = inverse_in (factor b.point_hessian d)
+    factors_unless : (r : Refusal) → factor b.point_hessian d ≡ Err r → factors d b ≡ false
+    unfolding factors factor_with_rcond
+    factors_unless r h = rw (good, h) refl
 
-  same_factor : (b : LocalLinearization) → is_ok (factor b.point_hessian d) ≡ factors d b
-  unfolding factors
-  same_factor b = sym (lone_factors b.point_hessian d good)
-
-  -- the answer of `factor_with_rcond`, by the factor's
-  abbrev conditioned : LocalLinearization → Result PointBlockFactor Refusal → Result ConditionedFactor Refusal
-  conditioned b f = elim f [ Ok g ↦ Ok (record { factor = g; rcond = reciprocal_condition_number g.inverse b.point_hessian }) | Err r ↦ Err r ]
-
-  same_rcond : (b : LocalLinearization) → factors d b ≡ true → is_weak (reciprocal_condition_number (inverse b) b.point_hessian) ≡ is_ill_conditioned d b
-  unfolding factor_with_rcond is_ill_conditioned
-  same_rcond b e = rw good (by (factor b.point_hessian d) (same_factor b ∙ e))
-    where
-      by : (f : Result PointBlockFactor Refusal) → is_ok f ≡ true
-          → is_weak (reciprocal_condition_number (inverse_in f) b.point_hessian) ≡ le (elim (conditioned b f) [ Ok g ↦ g.rcond | Err r ↦ zero ]) point_block_rcond_threshold
-      by (Ok f) t = refl
-      by (Err r) t = absurd (true≢false (sym t))
-
-  by_factor : (s : ReducedSystem) (b : LocalLinearization) → factors d b ≡ true → elimination_of s b d ≡ elimination_by_inverse s b d (inverse b)
-  by_factor s b e =
-      elimination_cases s b d (λ x. x ≡ elimination_by_inverse s b d (inverse b)) (λ f h. rw h refl)
-      (λ r h. absurd (true≢false (sym (same_factor b ∙ e) ∙ ap (λ (f : Result PointBlockFactor Refusal). is_ok f) h)))
-
-  by_no_factor : (s : ReducedSystem) (b : LocalLinearization) → factors d b ≡ false → elimination_of s b d ≡ elimination_without_factor s (is_zero d)
-  by_no_factor s b e =
-      elimination_cases s b d (λ x. x ≡ elimination_without_factor s (is_zero d))
-      (λ f h. absurd (true≢false (sym (ap (λ (f : Result PointBlockFactor Refusal). is_ok f) h) ∙ same_factor b ∙ e))) (λ r h. refl)
-
-  split : (s : ReducedSystem) (b : LocalLinearization) (P : Elimination → Type 0) → (factors d b ≡ true → P (elimination_by_inverse s b d (inverse b)))
-      → (factors d b ≡ false → P (elimination_without_factor s (is_zero d))) → P (elimination_of s b d)
-  split s b P f g = by (factors d b) refl
-    where
-      by : (x : Bool) → factors d b ≡ x → P (elimination_of s b d)
-      by true e = subst P (sym (by_factor s b e)) (f e)
-      by false e = subst P (sym (by_no_factor s b e)) (g e)
+    same_rcond : (f : PointBlockFactor) → factor b.point_hessian d ≡ Ok f → is_ill_conditioned d b ≡ is_weak (reciprocal_condition_number f.inverse b.point_hessian)
+    unfolding is_ill_conditioned factor_with_rcond
+    same_rcond f h = rw (good, h) refl
 
   module _ (s : ReducedSystem) (b : LocalLinearization) where
     valid_taken : (with_block s b d).valid ≡ (s.valid && factors d b)
-    unfolding with_block elimination_by_inverse elimination_without_factor
-    valid_taken = split s b (λ x. (s.valid && x.factored) ≡ (s.valid && factors d b)) (λ e. rw e refl) (λ e. rw e refl)
+    unfolding with_block elimination_of elimination_by_inverse elimination_without_factor
+    valid_taken = factor_cases b.point_hessian d (λ f h. rw (h, elimination_of, factors_if b f h) refl) (λ r h. rw (h, elimination_of, factors_unless b r h) refl)
 
     weak_taken : (with_block s b d).weak_point_count ≡ count_if (is_zero d && (not (factors d b) || is_ill_conditioned d b)) s.weak_point_count
-    unfolding with_block elimination_by_inverse elimination_without_factor
-    weak_taken =
-        split s b (λ x. count_if x.weak s.weak_point_count ≡ count_if (is_zero d && (not (factors d b) || is_ill_conditioned d b)) s.weak_point_count)
-        (λ e. ap (λ (z : Bool). count_if z s.weak_point_count) (rw (e, same_rcond b e) refl))
-        (λ e. rw e (ap (λ (z : Bool). count_if z s.weak_point_count) (sym (and-true (is_zero d)))))
+    unfolding with_block elimination_of elimination_by_inverse elimination_without_factor
+    weak_taken = factor_cases b.point_hessian d (λ f h. rw (h, elimination_of, factors_if b f h, same_rcond b f h) refl) (λ r h. rw (h, elimination_of, factors_unless b r h, and-true (is_zero d)) refl)
 
   -- the reduced equations see a block that factors, and no other
   module _ (s t : ReducedSystem) (b : LocalLinearization) (same : SameEquations s t) where
     equations_factored : factors d b ≡ true → SameEquations (with_block s b d) (with_block t b d)
-    unfolding with_block elimination_by_inverse
-    equations_factored e = rw (by_factor s b e, by_factor t b e) (record {
-      hessian = ap (λ h. reduced_hessian h (inverse b) b) same.hessian;
-      gradient = ap (λ h. reduced_gradient h (inverse b) b) same.gradient;
-      reduction = ap (λ h. point_reduction h (inverse b) b) same.reduction;
-    })
+    unfolding with_block elimination_of elimination_by_inverse
+    equations_factored e = factor_cases b.point_hessian d
+        (λ f h. rw (h, elimination_of) (record {
+          hessian = ap (λ x. reduced_hessian x f.inverse b) same.hessian;
+          gradient = ap (λ x. reduced_gradient x f.inverse b) same.gradient;
+          reduction = ap (λ x. point_reduction x f.inverse b) same.reduction;
+        }))
+        (λ r h. absurd (true≢false (sym e ∙ factors_unless b r h)))
 
     equations_refused : factors d b ≡ false → SameEquations (with_block s b d) t
-    unfolding with_block elimination_without_factor
-    equations_refused e = rw (by_no_factor s b e) (record { hessian = same.hessian; gradient = same.gradient; reduction = same.reduction })
+    unfolding with_block elimination_of elimination_without_factor
+    equations_refused e = factor_cases b.point_hessian d (λ f h. absurd (true≢false (sym (factors_if b f h) ∙ e)))
+        (λ r h. rw (h, elimination_of) (record { hessian = same.hessian; gradient = same.gradient; reduction = same.reduction }))
 
   -- ---- what further calls never do
 
@@ -163,13 +133,12 @@ module _ (d : Float) (good : is_valid_damping d ≡ true) where
   module _ (s : ReducedSystem) (b : LocalLinearization) (k : Sound s) (cost : T (is_nonnegative b.cost)) (squared : T (is_nonnegative b.squared_residual)) where
     -- the smallest rcond stays a number not below zero, and does not rise
     rcond_taken : T (is_nonnegative (with_block s b d).minimum_point_rcond) × T (le (with_block s b d).minimum_point_rcond s.minimum_point_rcond)
-    unfolding with_block elimination_by_inverse elimination_without_factor
+    unfolding with_block elimination_of elimination_by_inverse elimination_without_factor
     rcond_taken =
-        split s b (λ x. T (is_nonnegative x.minimum_point_rcond) × T (le x.minimum_point_rcond s.minimum_point_rcond))
-        (λ e. by (is_zero d) (min m (reciprocal_condition_number (inverse b) b.point_hessian))
-        (nonneg_min m (reciprocal_condition_number (inverse b) b.point_hessian) k.rcond (rcond_nonneg (inverse b) b.point_hessian))
-        (min_le_left m (reciprocal_condition_number (inverse b) b.point_hessian) (nonneg_not_nan m k.rcond)))
-        (λ e. by (is_zero d) zero (nonneg_zero binary64) (zero-le m k.rcond))
+        factor_cases b.point_hessian d
+        (λ f h. let r = reciprocal_condition_number f.inverse b.point_hessian in
+        rw (h, elimination_of) (by (is_zero d) (min m r) (nonneg_min m r k.rcond (rcond_nonneg f.inverse b.point_hessian)) (min_le_left m r (nonneg_not_nan m k.rcond))))
+        (λ r h. rw (h, elimination_of) (by (is_zero d) zero (nonneg_zero binary64) (zero-le m k.rcond)))
       where
         m : Float
         m = s.minimum_point_rcond

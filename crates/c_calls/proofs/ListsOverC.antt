@@ -23,8 +23,8 @@ use Rattle.linearization.specs.declared.linearize.LocalLinearization.{LocalLinea
 use Rattle.schur.specs.SchurComplement.{reduced_hessian, reduced_gradient}
 use Rattle.schur.specs.declared.reduced_system.ReducedSystem.{ReducedSystem}
 use Rattle.schur.specs.Reduced.{new_system}
-use Rattle.schur.specs.BlockElimination.{elimination_without_factor, elimination_by_inverse}
-use Rattle.schur.proofs.FactorCases.{elimination_cases}
+use Rattle.schur.specs.BlockElimination.{elimination_without_factor, elimination_by_inverse, elimination_of}
+use Rattle.schur.proofs.FactorCases.{factor_cases}
 use Rattle.schur.specs.ReducedAdd.{with_block, check_room, take_in, add, system_after}
 use Rattle.add_sequences.specs.Calls.{Inputs, linearization_of, Call, Add, RefusedAdd, call_result, system_after_call, call_results, system_after_calls, Counters, zero_counters, count_calls}
 use Rattle.add_sequences.proofs.Claim.{claim}
@@ -53,10 +53,10 @@ new_sized = record { hessian = refl; gradient = refl; full_gradient = refl; diag
 
 -- a system with a block, whether it factors or not
 with_block_sized : (s : ReducedSystem) (b : LocalLinearization) (d : Float) → Sized s → Sized (with_block s b d)
-unfolding with_block elimination_by_inverse elimination_without_factor reduced_hessian reduced_gradient sum5
+unfolding with_block elimination_of elimination_by_inverse elimination_without_factor reduced_hessian reduced_gradient sum5
 with_block_sized s b d k =
-    let l = elimination_cases s b d (λ e. (length e.hessian ≡ 25) × (length e.gradient ≡ 5)) (λ f h. (refl, refl)) (λ r h. (k.hessian, k.gradient)) in
-    record { hessian = l.0; gradient = l.1; full_gradient = refl; diagonal = refl }
+    factor_cases b.point_hessian d (λ f h. rw (h, elimination_of) (record { hessian = refl; gradient = refl; full_gradient = refl; diagonal = refl }))
+    (λ r h. rw (h, elimination_of) (record { hessian = k.hessian; gradient = k.gradient; full_gradient = refl; diagonal = refl }))
 
 -- what a check leaves, and then what `add` does
 checked_sized : (s t : ReducedSystem) (r : CheckResult) → Sized s → Sized t → Sized (system_after s (result_and r (Ok t)))
