@@ -1,14 +1,7 @@
 -- The claim on every list of calls, proved by one induction over the calls. Assumes nothing.
-use mathlib.Core.Path.{◌≡◌, refl, sym, ap, ap₂, ◌∙◌, subst}
-use mathlib.Core.Bool.{Bool, true, false, not, ◌&&◌, ◌||◌, cond, and-true, and_assoc, true≢false}
-use mathlib.Core.List.{List, [], ◌∷◌, ◌++◌, map}
-use Prim.Native.Nat.{ℕ, suc, ◌+◌, ◌≤◌}
-use native.Mathlib.Omega.{arith}
-use native.Mathlib.Nat.{le_trans as le-trans·, lt_of_le_of_lt, zero-add}
-use lib.Dec.{T, leb, leb→le, le→leb, ltb→lt, lt→ltb}
-use lib.ListN.{length}
+use Rattle.std.proofs.Common.{◌≡◌, refl, sym, ap, ap₂, ◌∙◌, subst, ℕ, suc, ◌+◌, ◌≤◌, Bool, true, false, not, ◌&&◌, ◌||◌, cond, T, true≢false, List, [], ◌∷◌, ◌++◌, map, length, filter, Result, Ok, Err, Some, None, leb, arith, le-leb, lt-ltb, ltb-true, le_trans as le-trans·, lt_of_le_of_lt, suc-le-suc, zero-add}
+use mathlib.Core.Bool.{and-true, and_assoc}
 use lib.Ieee.{Float, fits, binary64, le, of_bits}
-use lib.Ieee.Bits.{is_true}
 use lib.Ieee.Fits.{add-fits}
 use Rattle.numerics.specs.Binary64.{zero, point_block_rcond_threshold}
 use Rattle.numerics.specs.Classify.{is_nonnegative}
@@ -16,7 +9,6 @@ use Rattle.numerics.proofs.Order.{le_refl, nonneg_not_nan, nonneg_add}
 use Rattle.numerics.proofs.Monotone.{le_add, le_trans, zero-le, nonneg_zero}
 use Rattle.numerics.specs.Extrema.{min}
 use Rattle.numerics.proofs.Laws.{min_le_left, nonneg_min}
-use Rattle.std.specs.Prelude.{Result, Ok, Err, Some, None, is_ok, filter}
 use Rattle.std.specs.List.{list_all}
 use Rattle.std.proofs.lemmas.List.Sums.{length-filter}
 use Rattle.std.specs.Result.{result_err}
@@ -33,7 +25,7 @@ use Rattle.schur.specs.Reduced.{new_system}
 use Rattle.schur.specs.SchurComplement.{reduced_hessian, reduced_gradient, point_reduction}
 use Rattle.schur.specs.BlockElimination.{count_if, elimination_without_factor, elimination_by_inverse, elimination_of}
 use Rattle.schur.proofs.FactorCases.{factor_cases}
-use Rattle.schur.proofs.Room.{blocks_taken, weak_taken_at_most}
+use Rattle.schur.proofs.Room.{count_if_bounds, blocks_taken, weak_taken_at_most}
 use Rattle.schur.specs.ReducedAdd.{max_blocks, with_block, add, system_after}
 use Rattle.add_sequences.specs.Calls.{Inputs, linearization_of, Call, Add, RefusedAdd, system_after_call, call_results, system_after_calls, system_after_blocks, Counters, factors, is_ill_conditioned, has_room, count_block, count_calls, refusals_of, blocks_taken_in}
 use Rattle.linearization.proofs.Costs.{Costs, made_costs}
@@ -45,7 +37,7 @@ abbrev Counts : ReducedSystem → Type 0
 Counts s = s.weak_point_count ≤ s.block_count
 
 tested : (s : ReducedSystem) → Counts s → leb s.weak_point_count s.block_count ≡ true
-tested s c = is_true (leb s.weak_point_count s.block_count) (le→leb s.weak_point_count s.block_count c)
+tested s c = le-leb s.weak_point_count s.block_count c
 
 add_bad : (s : ReducedSystem) (b : LocalLinearization) (x : Float) → is_valid_damping x ≡ false → add s b x ≡ Err Damping
 unfolding add
@@ -163,14 +155,10 @@ module _ (d : Float) (good : is_valid_damping d ≡ true) where
     further_taken = record {
       cost = le_add binary64 s.cost b.cost k.cost_fits k.cost cost;
       squared = le_add binary64 s.squared_residual b.squared_residual k.squared_fits k.squared squared;
-      weak = rw (weak_taken s b) (by (is_zero d && (not (factors d b) || is_ill_conditioned d b)));
+      weak = rw (weak_taken s b) (count_if_bounds (is_zero d && (not (factors d b) || is_ill_conditioned d b)) s.weak_point_count).0;
       rcond = rcond_taken.1;
       flag = λ h. valid_taken s b ∙ ap (λ (x : Bool). x && factors d b) h;
     }
-      where
-        by : (x : Bool) → s.weak_point_count ≤ count_if x s.weak_point_count
-        by true = omega arith
-        by false = omega arith
 
   -- ---- the calls, one by one
 
@@ -192,7 +180,7 @@ module _ (d : Float) (good : is_valid_damping d ≡ true) where
     sums : SumsOverBlocks s bs end
     block_count : s.block_count + length bs ≡ end.block_count
     flag : end.valid ≡ (s.valid && list_all (factors d) bs)
-    equations : (u : ReducedSystem) → Counts u → T (leb u.block_count s.block_count) → SameEquations s u
+    equations : (u : ReducedSystem) → Counts u → u.block_count ≤ s.block_count → SameEquations s u
         → SameEquations end (system_after_blocks d u (filter (factors d) bs))
     weak_zero : is_zero d ≡ true → end.weak_point_count ≡ s.weak_point_count + weak_in bs
     weak_other : is_zero d ≡ false → end.weak_point_count ≡ s.weak_point_count
@@ -249,21 +237,18 @@ module _ (d : Float) (good : is_valid_damping d ≡ true) where
           by true false e = omega arith
           by false y e = omega arith
 
-      from_equations : (u : ReducedSystem) → Counts u → T (leb u.block_count s.block_count) → SameEquations s u
+      from_equations : (u : ReducedSystem) → Counts u → u.block_count ≤ s.block_count → SameEquations s u
           → SameEquations end (system_after_blocks d u (filter (factors d) (b ∷ bs)))
-      from_equations u c l same = by (factors d b) refl
+      from_equations u c below same = by (factors d b) refl
         where
-          below : u.block_count ≤ s.block_count
-          below = leb→le u.block_count s.block_count l
-
           u_free : has_room u.block_count ≡ true
-          u_free = is_true (has_room u.block_count) (lt→ltb u.block_count max_blocks (lt_of_le_of_lt below (ltb→lt s.block_count max_blocks (rw free tt))))
+          u_free = lt-ltb u.block_count max_blocks (lt_of_le_of_lt below (ltb-true s.block_count max_blocks free))
 
           by : (x : Bool) → factors d b ≡ x → SameEquations end (system_after_blocks d u (cond x (b ∷ filter (factors d) bs) (filter (factors d) bs)))
           by true e = subst (λ (a : Result ReducedSystem Refusal). SameEquations end (system_after_blocks d (system_after u a) (filter (factors d) bs))) (sym (add_taken u b c u_free))
-              (f.equations (with_block u b d) (weak_taken_at_most u b d c) (rw (blocks_taken u b d, blocks_taken s b d) (le→leb (suc u.block_count) (suc s.block_count) (omega (arith, below))))
+              (f.equations (with_block u b d) (weak_taken_at_most u b d c) (rw (blocks_taken u b d, blocks_taken s b d) (suc-le-suc below))
               (equations_factored s u b same e))
-          by false e = f.equations u c (rw (blocks_taken s b d) (le→leb u.block_count (suc s.block_count) (omega (arith, below)))) (equations_refused s u b same e)
+          by false e = f.equations u c (rw (blocks_taken s b d) (omega (arith, below))) (equations_refused s u b same e)
 
       from_taken : From s end t (b ∷ bs)
       from_taken = record {
@@ -340,7 +325,7 @@ module _ (d : Float) (good : is_valid_damping d ≡ true) where
     sums = f.sums;
     block_count = sym (zero-add (length (blocks_of calls))) ∙ f.block_count ∙ ap (λ (t : Counters). t.blocks) f.counters;
     flag = f.flag;
-    equations = f.equations new_system sound_new.counts tt (record { hessian = refl; gradient = refl; reduction = refl });
+    equations = f.equations new_system sound_new.counts (omega arith) (record { hessian = refl; gradient = refl; reduction = refl });
     weak = record {
       undamped = λ z. let bs = blocks_of calls in f.weak_zero z ∙ zero-add (weak_in bs) ∙ ap₂ (λ (m n : ℕ). m + n) (length-filter _ bs) (length-filter _ bs);
       damped = f.weak_other;

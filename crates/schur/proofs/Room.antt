@@ -6,9 +6,10 @@ use Rattle.schur.specs.declared.reduced_system.ReducedSystem.{ReducedSystem}
 use Rattle.schur.specs.BlockElimination.{count_if, elimination_of}
 use Rattle.schur.specs.ReducedAdd.{with_block}
 
-raised_at_most : (b : Bool) (weak blocks : ℕ) → weak ≤ blocks → count_if b weak ≤ suc blocks
-raised_at_most true weak blocks h = omega arith
-raised_at_most false weak blocks h = omega arith
+-- the same number, or one more
+pub count_if_bounds : (b : Bool) (n : ℕ) → (n ≤ count_if b n) × (count_if b n ≤ suc n)
+count_if_bounds true n = (omega arith, omega arith)
+count_if_bounds false n = (omega arith, omega arith)
 
 module _ (s : ReducedSystem) (b : LocalLinearization) (d : Float) where
   pub blocks_taken : (with_block s b d).block_count ≡ suc s.block_count
@@ -17,4 +18,4 @@ module _ (s : ReducedSystem) (b : LocalLinearization) (d : Float) where
 
   pub weak_taken_at_most : s.weak_point_count ≤ s.block_count → (with_block s b d).weak_point_count ≤ (with_block s b d).block_count
   unfolding with_block
-  weak_taken_at_most h = raised_at_most (elimination_of s b d).weak s.weak_point_count s.block_count h
+  weak_taken_at_most h = let k = count_if_bounds (elimination_of s b d).weak s.weak_point_count in omega (arith, k)
