@@ -177,7 +177,7 @@ module _ (d : Float) (good : is_valid_damping d ≡ true) where
     sound : Sound end
     counters : counters_at end ≡ t
     blocks_alone : end ≡ system_after_blocks d s bs
-    sums : SumsOverBlocks s bs end
+    sums : SumsOverBlocks s end bs
     block_count : s.block_count + length bs ≡ end.block_count
     flag : end.valid ≡ (s.valid && list_all (factors d) bs)
     equations : (u : ReducedSystem) → Counts u → u.block_count ≤ s.block_count → SameEquations s u
@@ -211,7 +211,7 @@ module _ (d : Float) (good : is_valid_damping d ≡ true) where
     next_sound = sound_taken s b k costs.0 costs.1
 
     module _ (end : ReducedSystem) (t : Counters) (bs : List LocalLinearization) (f : From (with_block s b d) end t bs) where
-      from_sums : SumsOverBlocks s (b ∷ bs) end
+      from_sums : SumsOverBlocks s end (b ∷ bs)
       unfolding with_block
       from_sums = let g = f.sums in record {
         cost = g.cost;

@@ -1,11 +1,13 @@
--- What holds of every list of calls of `add` of schur.rs. docs/SPECIFICATION.md, "Sequences of adds".
+-- What holds of every list of calls of `add` of schur.rs.
+-- docs/SPECIFICATION.md, "Sequences of adds".
 --
 -- A list has a damping d that row 3 lets through. Its first call works on a new system, each other
--- one on the system that the call before left: the one handed back, or, where that call was refused,
--- the system as it was. Each call brings a block, made from any inputs, at d or at a damping that row
--- 3 refuses. Such a call is refused with row 3; one at d on a system of 65,535 blocks with row 13;
--- each other call takes its block in. `EveryListOfAdds`, at the end, says of every d and every list
--- the sentences of the record `Claim`. `Calls.antt` defines the words that it uses.
+-- one on the system that the call before left: the one handed back, or, where that call was
+-- refused, the system as it was. Each call brings a block, made from any inputs, at d or at a
+-- damping that row 3 refuses. A call at such a damping is refused with row 3, one at d on a full
+-- system with row 13, and each other call takes its block in. `EveryListOfAdds`, at the end, says
+-- the sentences of the record `Claim` of every d and every list. `Calls.antt` has the definitions
+-- of its words.
 use Rattle.std.specs.Prelude.{ℕ, ◌+◌, ◌≤◌, ◌≡◌, true, false, not, ◌&&◌, IsTrue, Float, Result}
 use Rattle.std.specs.Prelude.{List, [], ◌∷◌, ◌++◌, map, fold, length, filter, count_by}
 use Rattle.std.specs.List.{list_all}
@@ -40,25 +42,28 @@ blocks_of calls = blocks_taken_in 0 calls
 abbrev pub counters_of : Float → List Call → Counters
 counters_of d calls = count_calls d zero_counters calls
 
--- ---- a run of the list: any answers, one for each call
+-- ---- a run of the list
 
--- Each answer is what the definition of `add` gives for its call and the system that the answer
--- before left, the first one for s.
-abbrev pub CallByCall :
-    Float → ReducedSystem → List Call → List (Result ReducedSystem Refusal) → Type 0
+-- what the calls answered, one after the other
+abbrev pub Run : Type 0
+Run = List (Result ReducedSystem Refusal)
+
+-- There is one answer for each call, and it is what the definition of `add` gives for the call and
+-- the system that the answer before left, the first one for s.
+abbrev pub CallByCall : Float → ReducedSystem → List Call → Run → Type 0
 CallByCall d s [] [] = Unit {0}
 CallByCall d s [] (r ∷ rs) = ⊥
 CallByCall d s (c ∷ cs) [] = ⊥
 CallByCall d s (c ∷ cs) (r ∷ rs) = (r ≡ call_result d s c) × CallByCall d (system_after s r) cs rs
 
 -- the system that the last answer left
-abbrev pub system_after_run : ReducedSystem → List (Result ReducedSystem Refusal) → ReducedSystem
+abbrev pub system_after_run : ReducedSystem → Run → ReducedSystem
 system_after_run s [] = s
 system_after_run s (r ∷ rs) = system_after_run (system_after s r) rs
 
 -- The run's answers and its last system are the list's own. The last system is also that of the
 -- blocks taken in by themselves, so that a refused call leaves no trace.
-pub record SameFigures (d : Float) (calls : List Call) (ran : List (Result ReducedSystem Refusal)) : Type 0 where
+pub record SameFigures (d : Float) (calls : List Call) (ran : Run) : Type 0 where
   pub each : ran ≡ call_results d new_system calls
   pub last : system_after_run new_system ran ≡ final_system d calls
   pub blocks_alone : system_after_run new_system ran
@@ -66,18 +71,19 @@ pub record SameFigures (d : Float) (calls : List Call) (ran : List (Result Reduc
 
 -- ---- what the sentences say
 
--- The counters t, which never see a system, have the flag, the block count and the weak count of the
--- last system, and foretell the refusal of each call, or that there is none. Row 12 is not among
--- those that they give, so that it never comes up.
+-- The counters t, which never see a system, have the flag, the block count and the weak count of
+-- the system after the list, and of each call the counters give the refusal, or that there is none.
+-- They know rows 3 and 13 alone, so that row 12 never comes up.
 pub record CountersAgree (d : Float) (calls : List Call) (t : Counters) : Type 0 where
   pub flag : (final_system d calls).valid ≡ t.flag
   pub blocks : (final_system d calls).block_count ≡ t.blocks
   pub weak : (final_system d calls).weak_point_count ≡ t.weak
-  pub refusals : map result_err (call_results d new_system calls) ≡ refusals_of d zero_counters calls
+  pub refusals : map result_err (call_results d new_system calls)
+      ≡ refusals_of d zero_counters calls
 
 -- What every block brings, one too that does not factor: the figures of t are those of s with the
 -- blocks' own added one by one, in their order; of the scaled point gradients t has the largest.
-pub record SumsOverBlocks (s : ReducedSystem) (blocks : List LocalLinearization) (t : ReducedSystem) : Type 0 where
+pub record SumsOverBlocks (s t : ReducedSystem) (blocks : List LocalLinearization) : Type 0 where
   pub cost : t.cost ≡ fold (λ sum b. sum ⊕ b.cost) s.cost blocks
   pub squared : t.squared_residual
       ≡ fold (λ sum b. sum ⊕ b.squared_residual) s.squared_residual blocks
@@ -95,8 +101,8 @@ pub record SameEquations (s t : ReducedSystem) : Type 0 where
   pub gradient : s.gradient ≡ t.gradient
   pub reduction : s.point_model_reduction ≡ t.point_model_reduction
 
--- At damping zero, of either sign, so many of the blocks are weak: those without a factor, and those
--- with a factor whose rcond is at most 192ε. At any other damping none is.
+-- At damping zero, of either sign, the weak count is how many of the blocks have no factor, and how
+-- many have one with an rcond of at most 192ε, added. At any other damping it is 0.
 pub record CountsWeakBlocks (d : Float) (weak : ℕ) (blocks : List LocalLinearization) : Type 0 where
   pub undamped : is_zero d ≡ true
       → weak
@@ -116,15 +122,13 @@ pub record IsMonotone (s t : ReducedSystem) : Type 0 where
 -- ---- the claim
 
 pub record Claim (d : Float) (calls : List Call) : Type 0 where
-  -- 1. The list alone decides every figure: any run of which each call meets the definition of `add`
-  -- has the list's own answers and last system.
-  pub figures : (ran : List (Result ReducedSystem Refusal))
-      → CallByCall d new_system calls ran
-      → SameFigures d calls ran
+  -- 1. The list alone decides every figure: any run in which each call answers as the definition of
+  -- `add` says has the list's own answers and last system.
+  pub figures : (ran : Run) → CallByCall d new_system calls ran → SameFigures d calls ran
   -- 2. The counters give the flag, the two counts and the refusal of each call.
   pub counters : CountersAgree d calls (counters_of d calls)
   -- 3. Costs, pose gradient and pose diagonal are the sums over all blocks taken in, from +0.
-  pub sums : SumsOverBlocks new_system (blocks_of calls) (final_system d calls)
+  pub sums : SumsOverBlocks new_system (final_system d calls) (blocks_of calls)
   -- 4. As many blocks are taken in as the counters say.
   pub block_count : length (blocks_of calls) ≡ (counters_of d calls).blocks
   -- 5. The flag is set if and only if every block taken in factors.

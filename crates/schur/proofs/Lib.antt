@@ -1,4 +1,4 @@
--- Laws of the scaled gradient norm, of the Schur complement, of the elimination of a block's point
+-- Laws of the scaled gradient norm, of the reduced Hessian, of the factor of a block
 -- and of the counts.
 pub mod Norms
 pub mod Rows

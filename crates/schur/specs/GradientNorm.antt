@@ -24,11 +24,11 @@ norm_without_scale zeros = if zeros then zero else inf false
 -- largest curvature is not positive and finite there is no scale.
 unfoldable pub scaled_gradient_inf_norm : ℕ → List Float → List Float → Float
 scaled_gradient_inf_norm n gradient diagonal =
-    let scale = fold_max (tabulate n (λ i. diagonal ! i)) in
+    let scale = fold_max diagonal in
     let floor = relative_tolerance ⊗ scale in
     if is_positive_finite scale
     then fold_max (tabulate n (λ i. scaled_entry (gradient ! i) (diagonal ! i) floor))
-    else norm_without_scale (all_zero (tabulate n (λ i. gradient ! i)))
+    else norm_without_scale (all_zero gradient)
 
 -- that of a point's gradient, by the diagonal of its Hessian
 unfoldable pub point_gradient_norm : List Float → List Float → Float

@@ -1,14 +1,13 @@
 -- The damping of the pose's five equations, in `finish_damping` and `predicted_reduction` of
 -- schur.rs. docs/SPECIFICATION.md, "Reduced system". Below d is the system's pose diagonal.
-use Rattle.std.specs.Prelude.{ℕ, ◌/◌, ◌%◌, if◌then◌else◌, List, [], ◌∷◌, ◌==◌, Float}
+use Rattle.std.specs.Prelude.{ℕ, ◌/◌, ◌%◌, if◌then◌else◌, List, ◌==◌, Float}
 use Rattle.numerics.specs.Binary64.{◌⊕◌, ◌⊗◌, relative_tolerance, min_positive}
 use Rattle.numerics.specs.Vectors.{◌!◌, sum, tabulate}
 use Rattle.numerics.specs.Extrema.{max, fold_max}
 
 -- 64ε · max(the largest entry of d, the smallest normal number)
 unfoldable pub pose_floor : List Float → Float
-pose_floor d =
-    relative_tolerance ⊗ max (fold_max (d ! 0 ∷ d ! 1 ∷ d ! 2 ∷ d ! 3 ∷ d ! 4 ∷ [])) min_positive
+pose_floor d = relative_tolerance ⊗ max (fold_max d) min_positive
 
 -- d with each entry at least that floor
 unfoldable pub damping_diagonal : List Float → List Float
