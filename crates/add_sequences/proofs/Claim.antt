@@ -1,9 +1,9 @@
 -- The claim on every list of calls, proved by one induction over the calls. Assumes nothing.
-use Rattle.std.proofs.Common.{◌≡◌, refl, sym, ap, ap₂, ◌∙◌, subst, ℕ, suc, ◌+◌, ◌≤◌, Bool, true, false, not, ◌&&◌, ◌||◌, cond, T, true≢false, List, [], ◌∷◌, ◌++◌, map, length, filter, Result, Ok, Err, Some, None, leb, arith, le-leb, lt-ltb, ltb-true, le_trans as le-trans·, lt_of_le_of_lt, suc-le-suc, zero-add}
+use Rattle.std.proofs.Common.{◌≡◌, refl, sym, ap, ap₂, ◌∙◌, subst, ℕ, suc, ◌+◌, ◌≤◌, Bool, true, false, not, ◌&&◌, ◌||◌, cond, T, true≢false, List, [], ◌∷◌, ◌++◌, map, length, filter, Result, Ok, Err, Some, None, arith, le-leb, lt-ltb, ltb-true, le_trans as le-trans·, lt_of_le_of_lt, suc-le-suc, zero-add}
 use mathlib.Core.Bool.{and-true, and_assoc}
 use lib.Ieee.{Float, fits, binary64, le, of_bits}
 use lib.Ieee.Fits.{add-fits}
-use Rattle.numerics.specs.Binary64.{zero, point_block_rcond_threshold}
+use Rattle.numerics.specs.Binary64.{zero}
 use Rattle.numerics.specs.Classify.{is_nonnegative}
 use Rattle.numerics.proofs.Order.{le_refl, nonneg_not_nan, nonneg_add}
 use Rattle.numerics.proofs.Monotone.{le_add, le_trans, zero-le, nonneg_zero}
@@ -33,40 +33,43 @@ use Rattle.add_sequences.specs.Claim.{CallByCall, system_after_run, final_system
 
 -- ---- what one call hands back
 
+-- row 12 does not refuse
 abbrev Counts : ReducedSystem → Type 0
 Counts s = s.weak_point_count ≤ s.block_count
 
-tested : (s : ReducedSystem) → Counts s → leb s.weak_point_count s.block_count ≡ true
-tested s c = le-leb s.weak_point_count s.block_count c
-
+-- row 3 refuses
 add_bad : (s : ReducedSystem) (b : LocalLinearization) (x : Float) → is_valid_damping x ≡ false → add s b x ≡ Err Damping
 unfolding add
 add_bad s b x h = rw h refl
 
-module _ (d : Float) (good : is_valid_damping d ≡ true) where
+module _ (d : Float) (valid : is_valid_damping d ≡ true) where
+  -- nothing refuses
   add_taken : (s : ReducedSystem) (b : LocalLinearization) → Counts s → has_room s.block_count ≡ true → add s b d ≡ Ok (with_block s b d)
   unfolding add
-  add_taken s b c e = rw (good, tested s c, e) refl
+  add_taken s b c e = rw (valid, le-leb _ _ c, e) refl
 
+  -- row 13 refuses
   add_full : (s : ReducedSystem) (b : LocalLinearization) → Counts s → has_room s.block_count ≡ false → add s b d ≡ Err Full
   unfolding add
-  add_full s b c e = rw (good, tested s c, e) refl
+  add_full s b c e = rw (valid, le-leb _ _ c, e) refl
 
-  -- ---- a block taken in: whether it factors, and its rcond, are the answer of `factor_with_rcond`
+  -- ---- a block taken in
 
+  -- its factor is that of `factor_with_rcond`, and so is its rcond
   module _ (b : LocalLinearization) where
     factors_if : (f : PointBlockFactor) → factor b.point_hessian d ≡ Ok f → factors d b ≡ true
     unfolding factors factor_with_rcond
-    factors_if f h = rw (good, h) refl
+    factors_if f h = rw (valid, h) refl
 
     factors_unless : (r : Refusal) → factor b.point_hessian d ≡ Err r → factors d b ≡ false
     unfolding factors factor_with_rcond
-    factors_unless r h = rw (good, h) refl
+    factors_unless r h = rw (valid, h) refl
 
     same_rcond : (f : PointBlockFactor) → factor b.point_hessian d ≡ Ok f → is_ill_conditioned d b ≡ is_weak (reciprocal_condition_number f.inverse b.point_hessian)
     unfolding is_ill_conditioned factor_with_rcond
-    same_rcond f h = rw (good, h) refl
+    same_rcond f h = rw (valid, h) refl
 
+  -- the flag and the weak count after it, in the words of the counters
   module _ (s : ReducedSystem) (b : LocalLinearization) where
     valid_taken : (with_block s b d).valid ≡ (s.valid && factors d b)
     unfolding with_block elimination_of elimination_by_inverse elimination_without_factor
@@ -95,6 +98,7 @@ module _ (d : Float) (good : is_valid_damping d ≡ true) where
 
   -- ---- what further calls never do
 
+  -- the counts are in order, and the figures that are compared are numbers not below zero
   record Sound (s : ReducedSystem) : Type 0 where
     counts : Counts s
     cost : T (is_nonnegative s.cost)
@@ -103,6 +107,7 @@ module _ (d : Float) (good : is_valid_damping d ≡ true) where
     squared_fits : T (fits binary64 s.squared_residual)
     rcond : T (is_nonnegative s.minimum_point_rcond)
 
+  -- further calls may do nothing
   further_refl : (s : ReducedSystem) → Sound s → IsMonotone s s
   further_refl s k = record {
     cost = le_refl s.cost (nonneg_not_nan s.cost k.cost);
@@ -112,6 +117,7 @@ module _ (d : Float) (good : is_valid_damping d ≡ true) where
     flag = λ h. h;
   }
 
+  -- and go on
   further_trans : (s t u : ReducedSystem) → IsMonotone s t → IsMonotone t u → IsMonotone s u
   further_trans s t u f g = record {
     cost = le_trans s.cost t.cost u.cost f.cost g.cost;
@@ -121,7 +127,7 @@ module _ (d : Float) (good : is_valid_damping d ≡ true) where
     flag = λ h. g.flag (f.flag h);
   }
 
-  -- a made block's costs are numbers not below zero
+  -- of a block whose costs are numbers not below zero, as those of every block are
   module _ (s : ReducedSystem) (b : LocalLinearization) (k : Sound s) (cost : T (is_nonnegative b.cost)) (squared : T (is_nonnegative b.squared_residual)) where
     -- the smallest rcond stays a number not below zero, and does not rise
     rcond_taken : T (is_nonnegative (with_block s b d).minimum_point_rcond) × T (le (with_block s b d).minimum_point_rcond s.minimum_point_rcond)
@@ -139,6 +145,7 @@ module _ (d : Float) (good : is_valid_damping d ≡ true) where
         by true x n l = (n, l)
         by false x n l = (k.rcond, le_refl m (nonneg_not_nan m k.rcond))
 
+    -- the block keeps the figures so
     sound_taken : Sound (with_block s b d)
     unfolding with_block
     sound_taken = record {
@@ -150,6 +157,7 @@ module _ (d : Float) (good : is_valid_damping d ≡ true) where
       rcond = rcond_taken.0;
     }
 
+    -- and moves none of them the wrong way
     further_taken : IsMonotone s (with_block s b d)
     unfolding with_block
     further_taken = record {
@@ -162,12 +170,15 @@ module _ (d : Float) (good : is_valid_damping d ≡ true) where
 
   -- ---- the calls, one by one
 
+  -- what the counters should be at a system
   abbrev counters_at : ReducedSystem → Counters
   counters_at s = record { flag = s.valid; blocks = s.block_count; weak = s.weak_point_count }
 
+  -- they count a block as `add` does
   counters_taken : (s : ReducedSystem) (b : LocalLinearization) → counters_at (with_block s b d) ≡ count_block d (counters_at s) b
   counters_taken s b = rw (valid_taken s b, blocks_taken s b d, weak_taken s b) refl
 
+  -- how many blocks are weak at damping zero
   abbrev weak_in : List LocalLinearization → ℕ
   weak_in bs = length (filter (λ b. not (factors d b)) bs) + length (filter (λ b. factors d b && is_ill_conditioned d b) bs)
 
@@ -186,6 +197,7 @@ module _ (d : Float) (good : is_valid_damping d ≡ true) where
     weak_other : is_zero d ≡ false → end.weak_point_count ≡ s.weak_point_count
     further : IsMonotone s end
 
+  -- no calls
   from_none : (s : ReducedSystem) → Sound s → From s s (counters_at s) []
   from_none s k = record {
     sound = k;
@@ -200,6 +212,7 @@ module _ (d : Float) (good : is_valid_damping d ≡ true) where
     further = further_refl s k;
   }
 
+  -- one call that takes its block in, and then others
   module _ (s : ReducedSystem) (i : Inputs) (k : Sound s) (free : has_room s.block_count ≡ true) where
     abbrev b : LocalLinearization
     b = linearization_of i
@@ -264,6 +277,7 @@ module _ (d : Float) (good : is_valid_damping d ≡ true) where
         further = further_trans s (with_block s b d) end (further_taken s b k costs.0 costs.1) f.further;
       }
 
+  -- the induction, over the calls
   abbrev Rest : List Call → ReducedSystem → Type 0
   Rest cs s = From s (system_after_calls d s cs) (count_calls d (counters_at s) cs) (blocks_taken_in s.block_count cs)
 
@@ -280,6 +294,7 @@ module _ (d : Float) (good : is_valid_damping d ≡ true) where
           (rw (← counters_taken s (linearization_of i), ← blocks_taken s (linearization_of i) d) (f (next_sound s i k e))))
       by false e f g = rw (add_full s (linearization_of i) k.counts e) g
 
+  -- each refusal is that of the counters
   refusals_each : (s : ReducedSystem) (cs : List Call) → Sound s → map result_err (call_results d s cs) ≡ refusals_of d (counters_at s) cs
   refusals_each s [] k = refl
   refusals_each s (RefusedAdd i x h ∷ cs) k = rw (add_bad s (linearization_of i) x h) (ap (λ l. Some Damping ∷ l) (refusals_each s cs k))
@@ -293,6 +308,7 @@ module _ (d : Float) (good : is_valid_damping d ≡ true) where
       by true e f g = rw (add_taken s (linearization_of i) k.counts e, ← counters_taken s (linearization_of i)) (ap (λ l. None ∷ l) (f (next_sound s i k e)))
       by false e f g = rw (add_full s (linearization_of i) k.counts e) (ap (λ l. Some Full ∷ l) g)
 
+  -- one list and then another
   after_append : (s : ReducedSystem) (cs more : List Call) → system_after_calls d s (cs ++ more) ≡ system_after_calls d (system_after_calls d s cs) more
   after_append s [] more = refl
   after_append s (c ∷ cs) more = after_append (system_after_call d s c) cs more
@@ -306,6 +322,7 @@ module _ (d : Float) (good : is_valid_damping d ≡ true) where
       let k = ran_each (system_after s r) cs rs h.1 in
       subst (λ (x : Result ReducedSystem Refusal). (r ∷ rs ≡ x ∷ call_results d (system_after s x) cs) × (system_after_run (system_after s r) rs ≡ system_after_calls d (system_after s x) cs)) h.0 (ap (λ l. r ∷ l) k.0, k.1)
 
+  -- the figures of a new system are such numbers
   sound_new : Sound new_system
   unfolding new_system is_nonnegative of_bits fits
   sound_new = record { counts = omega arith; cost = tt; cost_fits = tt; squared = tt; squared_fits = tt; rcond = tt }
