@@ -1,12 +1,7 @@
 -- A list of adds over the C interface reaches the system that `add` gives, call by call. Assumes
 -- nothing.
-use mathlib.Core.Path.{◌≡◌, refl, ap, ap₂, ◌∙◌, subst⁻¹}
-use mathlib.Core.Bool.{Bool, true, false, cond}
-use mathlib.Core.List.{List, [], ◌∷◌, map}
-use Prim.Native.Nat.{ℕ}
-use lib.ListN.{length}
-use lib.Ieee.{Float}
-use Rattle.std.specs.Prelude.{Result, Ok, Err}
+use Rattle.std.proofs.Common.{◌≡◌, refl, ap, ap₂, ◌∙◌, Bool, true, false, cond, List, [], ◌∷◌, map, ℕ, length, Float, Result, Ok, Err}
+use mathlib.Core.Path.{subst⁻¹}
 use Rattle.std.specs.Result.{result_and}
 use Rattle.refusal.specs.Chain.{◌>>=◌}
 use Rattle.refusal.specs.Outcome.{Outcome, outcome}
@@ -38,6 +33,7 @@ use Rattle.c_calls.proofs.ReadBack.{Sized, numbers_long, counts_long, system_rea
 
 -- ---- the lengths that blocks and systems have
 
+-- a block has its lengths, and so have the zeros beside a refusal
 block_sized : (r : CheckResult) (v : LinearizedViews) (w : Float) → SizedBlock (Linearize.block_or_zeros (result_and r (Ok (Linearize.block v w))))
 unfolding Linearize.zero_linearization Linearize.block Linearize.sums Linearize.terms pose_hessian cross_hessian point_hessian pose_gradient point_gradient
 block_sized (Ok t) v w = record { pose_hessian = refl; cross_hessian = refl; point_hessian = refl; pose_gradient = refl; point_gradient = refl }
@@ -58,11 +54,12 @@ with_block_sized s b d k =
     factor_cases b.point_hessian d (λ f h. rw (h, elimination_of) (record { hessian = refl; gradient = refl; full_gradient = refl; diagonal = refl }))
     (λ r h. rw (h, elimination_of) (record { hessian = k.hessian; gradient = k.gradient; full_gradient = refl; diagonal = refl }))
 
--- what a check leaves, and then what `add` does
+-- s or t, as a check decides
 checked_sized : (s t : ReducedSystem) (r : CheckResult) → Sized s → Sized t → Sized (system_after s (result_and r (Ok t)))
 checked_sized s t (Ok x) k l = l
 checked_sized s t (Err e) k l = k
 
+-- what `add` leaves has its lengths
 add_sized : (s : ReducedSystem) (b : LocalLinearization) (d : Float) → Sized s → Sized (system_after s (add s b d))
 unfolding add
 add_sized s b d k = by (is_valid_damping d)
