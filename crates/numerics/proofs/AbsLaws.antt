@@ -9,13 +9,14 @@ use lib.IntN.{pos}
 use lib.Dec.{T}
 use lib.Ieee.{Float, nan, inf, fin, Format, up, down, neg, sub, lt, fits, of_bits}
 use lib.Ieee.Fits.{down_pos, neg-fits}
+use Rattle.std.specs.Float.{float_with_sign}
 use Rattle.numerics.specs.Classify.{abs}
 use Rattle.numerics.proofs.Values.{zero_is, round_value}
 
 -- ---- the absolute value
 
 above : (x : Float) → lt (fin false 0 (pos 0)) x ≡ true → x ≡ abs x
-unfolding lt abs
+unfolding lt float_with_sign
 above nan h = refl
 above (inf true) h = absurd (false≢true h)
 above (inf false) h = refl
@@ -36,7 +37,7 @@ no_more u d h =
     simp (z, zero-mul, zero-sub)
 
 from_zero : (f : Format) (x : Float) → T (fits f x) → lt (fin false 0 (pos 0)) x ≡ false → sub f (fin false 0 (pos 0)) x ≡ abs x
-unfolding lt sub neg abs
+unfolding lt sub neg float_with_sign
 from_zero f nan p h = refl
 from_zero f (inf true) p h = refl
 from_zero f (inf false) p h = absurd (true≢false h)

@@ -18,7 +18,7 @@ use Rattle.numerics.specs.Classify.{is_nonnegative}
 use Rattle.numerics.proofs.ExtremaLaws.{eq_alike}
 use Rattle.numerics.proofs.Order.{not_lt, nonneg_not_nan, nonneg_is, not_negative, nonneg_above, nonneg_floor}
 use Rattle.numerics.proofs.Monotone.{nonneg_zero}
-use Rattle.numerics.specs.Extrema.{max, min, max_nonnegative, MaxNonnegative, fold_max}
+use Rattle.numerics.specs.Extrema.{max, min, max_nonnegative, IsMaxNonnegative, fold_max}
 use Rattle.numerics.proofs.Picks.{pick_has}
 
 no_lt_nan : (x y : Float) → is_nan y ≡ true → lt x y ≡ false
@@ -71,12 +71,12 @@ nonneg_min x y h k = pick_has _ _ x y (λ z. T (is_nonnegative z)) (nonneg_not_n
 eq_same : (f : Format) (x y : Float) → T (fits f x) → T (fits f y) → T (is_nonnegative x) → T (is_nonnegative y) → T (eq x y) → x ≡ y
 eq_same f x y p q a b h = eq_alike f x y p q (not_negative x a ∙ sym (not_negative y b)) h
 
-pub larger_is : (f : Format) (low x : Float) → T (fits f low) → T (fits f x) → MaxNonnegative low x (max_nonnegative low x)
+pub larger_is : (f : Format) (low x : Float) → T (fits f low) → T (fits f x) → IsMaxNonnegative low x (max_nonnegative low x)
 unfolding max
 larger_is f low x p q = record {
-  is = refl;
-  first = λ k. sym (max_select low x (passes _ k));
-  second = λ k. let n = passes (is_nonnegative low) k in pick_has _ _ x low (λ z. max_nonnegative low x ≡ z) (nonneg_not_nan low n) (λ h. chosen (is_true (lt low x) h)) (tied n) (λ h. other (is_false (lt low x) h));
+  value = refl;
+  low_first = λ k. sym (max_select low x (passes _ k));
+  low_second = λ k. let n = passes (is_nonnegative low) k in pick_has _ _ x low (λ z. max_nonnegative low x ≡ z) (nonneg_not_nan low n) (λ h. chosen (is_true (lt low x) h)) (tied n) (λ h. other (is_false (lt low x) h));
 }
   where
     chosen : lt low x ≡ true → max_nonnegative low x ≡ x
@@ -112,7 +112,7 @@ Found xs low = T (is_nonnegative low) × (low ≡ fold_max xs)
 pub found_none : Found [] zero
 found_none = (nonneg_zero binary64, refl)
 
-pub found_more : (xs : List Float) (low x r : Float) → Found xs low → MaxNonnegative low x r → Found (xs ++ (x ∷ [])) r
+pub found_more : (xs : List Float) (low x r : Float) → Found xs low → IsMaxNonnegative low x r → Found (xs ++ (x ∷ [])) r
 found_more xs low x r h l =
-    let e : r ≡ max low x = l.first (is_true _ h.0) in
+    let e : r ≡ max low x = l.low_first (is_true _ h.0) in
     (subst (λ (y : Float). T (is_nonnegative y)) (sym e) (nonneg_max low x h.0), e ∙ ap (λ (y : Float). max y x) h.1 ∙ sym (fold-append max zero xs (x ∷ [])))

@@ -1,9 +1,7 @@
 -- The larger and the smaller of two values, case by case: each law once for both. Assumes nothing.
-use mathlib.Core.Path.{◌≡◌, refl}
 use mathlib.Core.Bool.{Bool, true, false, not, ◌&&◌, ◌||◌, cond}
 use lib.Dec.{T}
-use lib.Ieee.{Float, nan, inf, fin, eq, is_nan}
-use Rattle.std.specs.Float.{is_sign_negative}
+use lib.Ieee.{Float, eq, is_nan}
 
 -- `max x y` and `min x y` alike: ahead says that x is strictly the one wanted, and sign that it
 -- has the wanted sign
