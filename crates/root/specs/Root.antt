@@ -30,8 +30,8 @@ unfoldable pub nearest_root : ℕ → Float
 unfolding rounded_root
 nearest_root n = rounded_root n ((size n + 1) / 2 - 53)
 
--- √x. Where 0 < x < ∞ and V = x · 2 ^ 1074, its magnitude, √x is √(V · 2 ^ 1074) units of 2 ^ -1074.
--- NaN gives NaN, what lies below zero gives NaN, +∞ gives +∞, and a zero of either sign itself.
+-- √x. Where 0 < x < ∞ and V = x · 2 ^ 1074, its magnitude, that is √(V · 2 ^ 1074) units of
+-- 2 ^ -1074. NaN and what lies below zero give NaN, +∞ gives +∞, and a zero of either sign itself.
 unfoldable pub sqrt : Float → Float
 unfolding nearest_root
 sqrt nan = nan
@@ -56,8 +56,10 @@ pub record IsCorrectlyRounded (x r : Float) : Type 0 where
   pub is_finite : IsTrue (float_is_finite r)
   pub has_sign_clear : IsTrue (is_nonnegative r)
   pub lower_are_further :
-      (y : Float) → IsTrue (fits binary64 y) → IsTrue (float_is_finite y) → magnitude y < magnitude r
+      (y : Float) → IsTrue (fits binary64 y) → IsTrue (float_is_finite y)
+      → magnitude y < magnitude r
       → (magnitude y + magnitude r) ^ 2 < 4 * (magnitude x * 2 ^ 1074)
   pub higher_are_further :
-      (y : Float) → IsTrue (fits binary64 y) → IsTrue (float_is_finite y) → magnitude r < magnitude y
+      (y : Float) → IsTrue (fits binary64 y) → IsTrue (float_is_finite y)
+      → magnitude r < magnitude y
       → 4 * (magnitude x * 2 ^ 1074) < (magnitude y + magnitude r) ^ 2
