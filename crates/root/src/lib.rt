@@ -96,8 +96,8 @@ fn radicand(m: u64, power: u64) -> u128
     d as u128 * LEAD as u128
 }
 
-// Both comparisons of `IsNearestRoot` in one: where root * root is not below n + root, the difference
-// wraps to more than any 2 * root.
+// Both comparisons of `IsNearestRoot` in one: where root * root is not below n + root, the
+// difference wraps to more than any 2 * root.
 fn is_nearest(n: u128, root: u64) -> bool
     requires { (0 < n) × (n < 2 ^ 106) }
     ensures nearest { IsTrue result → IsNearestRoot n root }

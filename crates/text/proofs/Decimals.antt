@@ -1,6 +1,6 @@
 -- The ten digits of a number, without the zeros before it, are std's `decimal`. Assumes nothing.
 use mathlib.Core.Path.{◌≡◌, refl, sym, ap, ◌∙◌}
-use mathlib.Core.Bool.{Bool, true, false}
+use mathlib.Core.Bool.{Bool, true, false, cond}
 use mathlib.Core.List.{List, [], ◌∷◌, ◌++◌}
 use Prim.Native.Nat.{ℕ, zero, suc, ◌+◌, ◌/◌, ◌%◌, ◌^◌, ◌≤◌, ◌<◌}
 use native.Mathlib.Nat.{div-eq_of_lt, div-div-eq-div-mul, div-lt_iff_lt-mul, le-div_iff_mul-le, one-le-pow, pow-suc, pow-succ'}
@@ -8,8 +8,8 @@ use native.Mathlib.Numerals.{one-add}
 use native.Mathlib.Omega.{arith}
 use borrow.Author.Tests.{ltb-true, ltb-false, ne_eqb}
 use lib.Dec.{eqb, ltb}
-use lib.ListN.{take, drop}
-use Rattle.std.specs.Fmt.{decimal}
+use lib.ListN.{length, take, drop}
+use Rattle.std.specs.Fmt.{decimal, digits, digits_onto, digit_glyph}
 use Rattle.std.specs.List.{prefix_len}
 use Rattle.std.proofs.lemmas.Fmt.{decimal_digit, decimal_step}
 use Rattle.text.specs.Text.{digit, ten_digits}
@@ -55,3 +55,17 @@ behind_zeros (suc k) n high small = by (ltb n (10 ^ suc k)) refl (λ h. behind_z
 
 pub behind_zeros_of_ten : (n : ℕ) → n < 2 ^ 32 → drop (prefix_len (λ d. eqb d 48) (take 9 (ten_digits n))) (ten_digits n) ≡ decimal n
 behind_zeros_of_ten n h = behind_zeros 9 n (omega arith) (omega arith)
+
+-- no decimal is longer than 64 digits, whatever the number
+onto_length : (k n : ℕ) (acc : List ℕ) → length (digits_onto k 10 false n acc) ≤ k + length acc
+onto_length zero n acc = omega arith
+onto_length (suc k) n acc = by (eqb (n / 10) 0) (onto_length k (n / 10) (digit_glyph false (n % 10) ∷ acc))
+  where
+    by : (t : Bool) → length (digits_onto k 10 false (n / 10) (digit_glyph false (n % 10) ∷ acc)) ≤ k + suc (length acc)
+        → length (cond t (digit_glyph false (n % 10) ∷ acc) (digits_onto k 10 false (n / 10) (digit_glyph false (n % 10) ∷ acc))) ≤ suc k + length acc
+    by true h = omega arith
+    by false h = omega arith
+
+pub decimal_length : (n : ℕ) → length (decimal n) ≤ 64
+unfolding digits
+decimal_length n = onto_length 64 n []

@@ -1,6 +1,7 @@
 -- Text in ASCII, and what a call leaves that puts one into a lent buffer. Of a text that is longer
 -- than what is left of the buffer, as much is put as fits. docs/SPECIFICATION.md, "List".
-use Rattle.std.specs.Prelude.{ℕ, ◌+◌, ◌-◌, ◌/◌, ◌%◌, ◌^◌, ◌≡◌, List, [], ◌∷◌, ◌++◌, length, take, drop}
+use Rattle.std.specs.Prelude.{ℕ, ◌+◌, ◌-◌, ◌/◌, ◌%◌, ◌^◌, ◌≡◌}
+use Rattle.std.specs.Prelude.{List, [], ◌∷◌, ◌++◌, length, take, drop}
 use Rattle.text.specs.declared.Writer.{Writer}
 
 abbrev pub space : ℕ
