@@ -42,7 +42,7 @@ eq_unlike f x y p a h = grind arith
 flip : (s t : Bool) → s ≡ not t → t ≡ not s
 flip s t u = search rules
 
-pub is_maximum : (x y : Float) → T (fits binary64 x) → T (fits binary64 y) → IsMaximum x y (max x y)
+is_maximum : (x y : Float) → T (fits binary64 x) → T (fits binary64 y) → IsMaximum x y (max x y)
 unfolding max is_nan lt eq is_sign_negative of_bits
 is_maximum x y p q = record {
   first_nan = λ k. search rules;
@@ -56,7 +56,11 @@ is_maximum x y p q = record {
       grind arith;
 }
 
-pub is_minimum : (x y : Float) → T (fits binary64 x) → T (fits binary64 y) → IsMinimum x y (min x y)
+-- what the contracts of `max` and `min` say of a result
+pub maximum_is : (x y r : Float) → fits binary64 x ≡ true → fits binary64 y ≡ true → r ≡ max x y → IsMaximum x y r
+maximum_is x y r p q e = rw e (is_maximum x y (passes _ p) (passes _ q))
+
+is_minimum : (x y : Float) → T (fits binary64 x) → T (fits binary64 y) → IsMinimum x y (min x y)
 unfolding min is_nan lt eq is_sign_negative of_bits neg
 is_minimum x y p q = record {
   first_nan = λ k. search rules;
@@ -69,3 +73,6 @@ is_minimum x y p q = record {
       let g = eq_unlike binary64 y x q (flip _ _ s) (eq_flip x y (passes _ k)) in
       grind arith;
 }
+
+pub minimum_is : (x y r : Float) → fits binary64 x ≡ true → fits binary64 y ≡ true → r ≡ min x y → IsMinimum x y r
+minimum_is x y r p q e = rw e (is_minimum x y (passes _ p) (passes _ q))

@@ -42,12 +42,15 @@ nonneg_min x y h k = search rules
 
 -- ---- `max_nonnegative` in the place of `max`
 
-pub max_nonnegative_is : (f : Format) (low x : Float) → T (fits f low) → T (fits f x) → IsMaxNonnegative low x (max_nonnegative low x)
+low_second : (low x : Float) → T (fits binary64 low) → T (fits binary64 x) → T (is_nonnegative low) → max_nonnegative low x ≡ max x low
 unfolding max lt eq is_nan is_nonnegative is_sign_negative
-max_nonnegative_is f low x p q = record {
-  value = refl;
-  low_first = λ k. sym (max_select low x (passes _ k));
-  low_second = λ k. grind (arith, nat_tests, eq_alike f x low q p);
+low_second low x p q k = grind (arith, nat_tests, eq_alike binary64 x low q p)
+
+pub max_nonnegative_is : (low x r : Float) → fits binary64 low ≡ true → fits binary64 x ≡ true → r ≡ max_nonnegative low x → IsMaxNonnegative low x r
+max_nonnegative_is low x r p q e = record {
+  value = e;
+  low_first = λ k. e ∙ sym (max_select low x (passes _ k));
+  low_second = λ k. e ∙ low_second low x (passes _ p) (passes _ q) (passes _ k);
 }
 
 -- ---- the largest of a list

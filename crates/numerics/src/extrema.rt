@@ -6,7 +6,7 @@ ghost use Rattle.numerics.specs.Extrema as Extrema;
 
 /// The larger of x and y, `f64::max`. A NaN is passed over where the other is a number. Of +0 and
 /// −0 it is +0, in either order, which the Rust leaves open.
-#[tactic(auto, unfolding(crate::specs::Extrema::max))]
+#[tactic(auto, using(crate::proofs::ExtremaLaws::maximum_is), unfolding(crate::specs::Extrema::max))]
 pub fn max(x: f64, y: f64) -> f64
     ensures result { result ≡ Extrema.max x y }
     ensures standard { Extrema.IsMaximum x y result }
@@ -20,7 +20,7 @@ pub fn max(x: f64, y: f64) -> f64
 
 /// The smaller of x and y, `f64::min`. A NaN is passed over where the other is a number. Of +0 and
 /// −0 it is −0, in either order, which the Rust leaves open.
-#[tactic(auto, unfolding(crate::specs::Extrema::min))]
+#[tactic(auto, using(crate::proofs::ExtremaLaws::minimum_is), unfolding(crate::specs::Extrema::min))]
 pub fn min(x: f64, y: f64) -> f64
     ensures result { result ≡ Extrema.min x y }
     ensures standard { Extrema.IsMinimum x y result }
