@@ -7,7 +7,7 @@ use native.Mathlib.Omega.{arith}
 use borrow.Author.Tests.{ltb-false}
 use lib.IntN.{pos}
 use lib.Dec.{T}
-use lib.Ieee.{Float, nan, inf, fin, Format, up, down, neg, sub, lt, fits, of_bits}
+use lib.Ieee.{Float, fin, Format, up, down, neg, sub, lt, fits, of_bits}
 use lib.Ieee.Fits.{down_pos, neg-fits}
 use Rattle.std.proofs.Common.{rules}
 use Rattle.std.specs.Float.{float_with_sign}

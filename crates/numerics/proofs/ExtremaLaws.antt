@@ -1,16 +1,15 @@
 -- What the standard says of the larger and the smaller of two values that binary64 holds, for
 -- each of its cases. Assumes nothing.
-use mathlib.Core.Path.{◌≡◌, refl, sym, ap, ◌∙◌}
-use mathlib.Core.Bool.{Bool, true, false, not, ◌&&◌, ◌||◌}
+use mathlib.Core.Path.{◌≡◌, refl, sym, ◌∙◌}
+use mathlib.Core.Bool.{Bool, true, not, ◌||◌}
 use Prim.Native.Nat.{ℕ, ◌*◌}
 use native.Mathlib.Nat.{zero-mul}
 use native.Mathlib.Omega.{arith}
 use lib.IntN.{pos}
 use lib.Dec.{T, eqb, eqb→eq}
-use lib.Ieee.{Float, nan, inf, fin, Format, binary64, up, down, fits, is_nan, lt, eq, level, of_bits, neg}
+use lib.Ieee.{Float, fin, Format, binary64, up, down, fits, is_nan, lt, eq, level, of_bits, neg}
 use lib.Ieee.Fits.{and_l, and_r, down_pos}
 use Rattle.std.proofs.Common.{rules}
-use Rattle.std.proofs.lemmas.Bool.Decides.{nat_tests}
 use Rattle.std.proofs.lemmas.Float.{eq_flip}
 use Rattle.std.specs.Bool.{beq, passes}
 use Rattle.std.specs.Float.{is_sign_negative}

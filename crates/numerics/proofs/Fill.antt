@@ -1,7 +1,7 @@
 -- A list that is filled from the front, entry by entry, with what a function gives. Assumes
 -- nothing.
-use mathlib.Core.Path.{◌≡◌, refl, sym, ap, subst, ◌∙◌}
-use mathlib.Core.List.{List, ◌++◌, map, append-nil}
+use mathlib.Core.Path.{◌≡◌, refl, sym, subst, ◌∙◌}
+use mathlib.Core.List.{List, [], ◌++◌, map, append-nil}
 use Prim.Native.Nat.{ℕ, zero, suc, ◌+◌, ◌*◌, ◌/◌, ◌%◌, ◌<◌}
 use native.Mathlib.Nat.{add-zero, zero-add, add-suc, suc-add}
 use native.Mathlib.Numerals.{add-one}
@@ -31,26 +31,16 @@ filled l f k = tabulate k f ++ drop k l
 
 pub fill_next : (l h : List Float) (f : ℕ → Float) (k : ℕ) (v : Float) → h ≡ filled l f k → v ≡ f k → k < length l → set h k v ≡ filled l f (k + 1)
 fill_next l h f k v e g i =
-    ap (λ (t : List Float). set t k v) e
-    ∙ ap (λ (x : Float). set (filled l f k) k x) g
-    ∙ ap (λ (t : List Float). set (tabulate k f ++ t) k (f k)) (drop-cons l k nan i)
-    ∙ set_at (tabulate k f) (l ! k) (drop (suc k) l) (f k) k (length_tabulate k f)
-    ∙ sym (rw (tabulate_maps (k + 1) f, map-range_with_len_more f 0 k k (zero-add k), ← tabulate_maps k f, add-one k) (append_snoc (tabulate k f) (f k) (drop (suc k) l)))
+    rw (e, g, drop-cons l k nan i)
+    (set_at (tabulate k f) (l ! k) (drop (suc k) l) (f k) k (length_tabulate k f)
+    ∙ sym (rw (tabulate_maps (k + 1) f, map-range_with_len_more f 0 k k (zero-add k), ← tabulate_maps k f, add-one k) (append_snoc (tabulate k f) (f k) (drop (suc k) l))))
 
 -- the entry that is filled next is still l's
 pub fill_read : (l h : List Float) (f : ℕ → Float) (k : ℕ) → h ≡ filled l f k → k < length l → h ! k ≡ l ! k
-fill_read l h f k e i =
-    ap (λ (t : List Float). t ! k) e
-    ∙ ap (λ (t : List Float). (tabulate k f ++ t) ! k) (drop-cons l k nan i)
-    ∙ get_or_at (tabulate k f) (l ! k) (drop (suc k) l) nan k (length_tabulate k f)
+fill_read l h f k e i = rw (e, drop-cons l k nan i) (get_or_at (tabulate k f) (l ! k) (drop (suc k) l) nan k (length_tabulate k f))
 
 pub fill_all : (l h : List Float) (f : ℕ → Float) (k n : ℕ) → h ≡ filled l f k → k ≡ n → length l ≡ n → h ≡ tabulate n f
-fill_all l h f k n e g i =
-    e
-    ∙ ap (λ (m : ℕ). filled l f m) g
-    ∙ ap (λ (m : ℕ). tabulate n f ++ drop m l) (sym i)
-    ∙ ap (λ (t : List Float). tabulate n f ++ t) (drop-length l)
-    ∙ append-nil (tabulate n f)
+fill_all l h f k n e g i = let d : drop n l ≡ [] = rw i at (drop-length l) in rw (e, g, d, append-nil) refl
 
 -- ---- an array of n entries that begins as +0 everywhere
 

@@ -1,6 +1,6 @@
 -- An array that `from_fn` makes, by what its closure gives at each index, where each call leaves
 -- the closure as it was. Assumes nothing.
-use Rattle.std.proofs.Common.{◌≡◌, ℕ, zero, suc, ◌+◌, ◌<◌, List, get_or, map, sym, ap, subst, ◌∙◌, add-zero, zero-add, arith}
+use Rattle.std.proofs.Common.{◌≡◌, ℕ, zero, suc, ◌+◌, ◌<◌, List, get_or, map, sym, subst, ◌∙◌, add-zero, zero-add, arith}
 use denote.Param.Members.{Mut}
 use lib.Ieee.{Float}
 use Rattle.std.specs.Array.{IsFromFnResult, IsFromFnResultFrom}

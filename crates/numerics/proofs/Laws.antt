@@ -1,11 +1,11 @@
 -- Laws of the larger and the smaller of two values, and of the largest of a list. A number here
 -- is a value that is no NaN. Assumes nothing.
 use mathlib.Core.Path.{◌≡◌, refl, sym, ap, ◌∙◌, subst}
-use mathlib.Core.Bool.{Bool, true, not, ◌&&◌, ◌||◌, cond}
+use mathlib.Core.Bool.{true, not, cond}
 use mathlib.Core.List.{List, [], ◌∷◌, ◌++◌}
 use native.Mathlib.Omega.{arith}
 use lib.Dec.{T}
-use lib.Ieee.{Float, Format, binary64, lt, eq, le, fits, is_nan}
+use lib.Ieee.{Float, binary64, lt, eq, le, fits, is_nan}
 use lib.Ieee.Bits.{is_true}
 use Rattle.std.proofs.Common.{rules}
 use Rattle.std.proofs.lemmas.Bool.Decides.{nat_tests}

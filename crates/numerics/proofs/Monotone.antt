@@ -1,13 +1,13 @@
 -- A sum of values clear of the sign never falls, and some products stay clear of the sign.
 -- Assumes nothing.
 use mathlib.Core.Path.{◌≡◌, refl, sym, ◌∙◌, subst}
-use mathlib.Core.Bool.{Bool, true, false, not, cond}
+use mathlib.Core.Bool.{true, false, not, cond}
 use Prim.Native.Nat.{ℕ, zero, suc, ◌+◌, ◌-◌, ◌*◌, ◌≤◌}
 use native.Mathlib.Nat.{le_trans as le-trans·, le_of_eq, le-add_right, zero-add, sub-zero, zero-mul, mul-zero, one-mul, mul-one, mul_assoc, mul_comm, mul_right_comm, mul-le-mul_right, mul-pos}
 use native.Mathlib.Omega.{arith}
 use lib.IntN.{ℤ, pos, negsuc}
 use lib.Dec.{T, ltb, eqb-suc-zero}
-use lib.Ieee.{Float, fin, inf, nan, Format, binary64, up, down, round, neg, add, mul, of_bits, lt, le, fits, is_nan}
+use lib.Ieee.{Float, fin, Format, binary64, up, down, round, neg, add, mul, of_bits, lt, le, fits, is_nan}
 use lib.Ieee.Fits.{down_pos}
 use lib.Ieee.Order.{round_mono}
 use Rattle.std.proofs.Common.{rules}
@@ -17,7 +17,7 @@ use Rattle.std.specs.Float.{float_is_finite}
 use Rattle.numerics.specs.Binary64.{◌⊕◌, ◌⊗◌, half, neg_zero}
 use Rattle.numerics.specs.Classify.{is_nonnegative}
 use Rattle.numerics.proofs.Values.{zero_is, round_value, round_zero}
-use Rattle.numerics.proofs.Order.{nonneg_above, nonneg_mul_positive}
+use Rattle.numerics.proofs.Order.{nonneg_mul_positive}
 
 pub finite_not_nan : (x : Float) → T (float_is_finite x) → T (not (is_nan x))
 unfolding float_is_finite is_nan

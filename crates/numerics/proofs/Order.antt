@@ -1,12 +1,12 @@
 -- The laws that callers cite: the order of values, and what keeps a value a number, or clear of
 -- the sign. A number here is a value that is no NaN. Assumes nothing.
 use mathlib.Core.Path.{◌≡◌}
-use mathlib.Core.Bool.{Bool, true, false, not}
+use mathlib.Core.Bool.{false, not}
 use Prim.Native.Nat.{ℕ, suc}
 use native.Mathlib.Omega.{arith}
 use lib.IntN.{ℤ, negsuc}
 use lib.Dec.{T, eqb-suc-zero}
-use lib.Ieee.{Float, Format, binary64, units, odd, unlike, round, fin, add, mul, div, of_bits, lt, le, is_nan}
+use lib.Ieee.{Float, Format, binary64, units, odd, round, fin, add, mul, div, of_bits, lt, le, is_nan}
 use lib.Ieee.Fits.{round_is}
 use Rattle.std.proofs.Common.{rules}
 pub use Rattle.std.proofs.lemmas.Float.{le_refl}

@@ -1,8 +1,8 @@
 -- Products with a factor that is finite and above 0: they keep the order of values clear of the
 -- sign, and so that of the largest of a list is below a bound where that of each number is.
 -- Assumes nothing.
-use mathlib.Core.Path.{◌≡◌, refl, sym, ap, ◌∙◌, subst}
-use mathlib.Core.Bool.{Bool, true, false, not, ◌&&◌, cond}
+use mathlib.Core.Path.{◌≡◌, refl, ap, ◌∙◌, subst}
+use mathlib.Core.Bool.{Bool, true, false, not, ◌&&◌}
 use mathlib.Core.List.{List, [], ◌∷◌, map}
 use Prim.Native.Nat.{ℕ, suc, ◌*◌, ◌≤◌}
 use native.Mathlib.Nat.{mul-pos, mul_comm, mul_assoc, mul-mul-mul_comm, mul-le-mul_left, mul-le-mul_right}
@@ -10,7 +10,7 @@ use native.Mathlib.Omega.{arith}
 use borrow.Author.Tests.{ltb-false}
 use lib.IntN.{ℤ, pos, negsuc}
 use lib.Dec.{T, eqb-suc-zero}
-use lib.Ieee.{Float, nan, inf, fin, Format, binary64, up, down, round, mul, lt, le, fits, is_nan, of_bits}
+use lib.Ieee.{Float, inf, fin, Format, binary64, up, down, round, mul, lt, le, fits, is_nan, of_bits}
 use lib.Ieee.Fits.{and_l, and_r, down_pos}
 use lib.Ieee.Order.{round_mono}
 use Rattle.std.proofs.Common.{rules}

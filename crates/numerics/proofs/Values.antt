@@ -2,19 +2,19 @@
 -- size (`same_value`).
 -- So a fraction of that size is rounded to it (`round_value`). Assumes nothing.
 use mathlib.Core.Path.{◌≡◌, refl, sym, ap, ap₂, ◌∙◌, subst₂}
-use mathlib.Core.Bool.{Bool, false, ◌&&◌, cond}
-use Prim.Native.Nat.{ℕ, zero, suc, ◌+◌, ◌-◌, ◌*◌, ◌/◌, ◌%◌, ◌^◌, ◌≤◌, ◌<◌}
+use mathlib.Core.Bool.{Bool, false, cond}
+use Prim.Native.Nat.{ℕ, zero, suc, ◌+◌, ◌-◌, ◌*◌, ◌/◌, ◌^◌, ◌≤◌, ◌<◌}
 use native.Mathlib.Omega.{arith}
 use Rattle.std.proofs.lemmas.Bool.Decides.{nat_tests}
 use native.Mathlib.Nat.{le_trans, le_of_eq, le_of_suc-le-suc, lt_of_not-le, not-le_of_lt, mul_assoc, mul_comm, mul_right_comm, zero-mul, mul-one, one-mul, mul-pos, mul-le-mul_right, mul-lt-mul_of_pos_right, lt_of_mul-lt-mul_right, eq_of_mul-eq-mul_right}
 use lib.IntN.{ℤ, pos, negsuc}
-use lib.Dec.{T, leb, ltb, eqb, eqb→eq, leb→le, ltb→lt}
+use lib.Dec.{T, eqb→eq}
 use lib.Pow.{pow-add, pow_pos, pow-lt}
-use lib.Ieee.{Float, nan, inf, fin, Format, binary32, binary64, prec, emax, low, up, down, size, round, fits, hid, top, of_bits, to_bits}
+use lib.Ieee.{Float, fin, Format, binary32, binary64, prec, emax, low, up, down, size, round, fits, hid, top, of_bits, to_bits}
 use lib.Ieee.Bits.{of_bits-to_bits}
 use lib.Ieee.Digits.{back}
 use lib.Ieee.Exact.{HasValue, round_exact}
-use lib.Ieee.Fits.{and_l, and_r, up_pos, down_pos, round-fits}
+use lib.Ieee.Fits.{up_pos, down_pos, round-fits}
 use lib.Ieee.Nearest.{div_same}
 
 -- ---- of the values that a format holds, one has a given sign and size
