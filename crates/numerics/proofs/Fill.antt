@@ -1,7 +1,7 @@
 -- A list that is filled from the front, entry by entry, with what a function gives. Assumes
 -- nothing.
-use mathlib.Core.Path.{◌≡◌, refl, sym, ap, subst, ◌∙◌}
-use mathlib.Core.List.{List, ◌++◌, map, append-nil}
+use mathlib.Core.Path.{◌≡◌, refl, sym, subst, ◌∙◌}
+use mathlib.Core.List.{List, [], ◌++◌, map, append-nil}
 use Prim.Native.Nat.{ℕ, zero, suc, ◌+◌, ◌*◌, ◌/◌, ◌%◌, ◌<◌}
 use native.Mathlib.Nat.{add-zero, zero-add, add-suc, suc-add}
 use native.Mathlib.Numerals.{add-one}
@@ -31,26 +31,16 @@ filled l f k = tabulate k f ++ drop k l
 
 pub fill_next : (l h : List Float) (f : ℕ → Float) (k : ℕ) (v : Float) → h ≡ filled l f k → v ≡ f k → k < length l → set h k v ≡ filled l f (k + 1)
 fill_next l h f k v e g i =
-    ap (λ (t : List Float). set t k v) e
-    ∙ ap (λ (x : Float). set (filled l f k) k x) g
-    ∙ ap (λ (t : List Float). set (tabulate k f ++ t) k (f k)) (drop-cons l k nan i)
-    ∙ set_at (tabulate k f) (l ! k) (drop (suc k) l) (f k) k (length_tabulate k f)
-    ∙ sym (rw (tabulate_maps (k + 1) f, map-range_with_len_more f 0 k k (zero-add k), ← tabulate_maps k f, add-one k) (append_snoc (tabulate k f) (f k) (drop (suc k) l)))
+    rw (e, g, drop-cons l k nan i)
+    (set_at (tabulate k f) (l ! k) (drop (suc k) l) (f k) k (length_tabulate k f)
+    ∙ sym (rw (tabulate_maps (k + 1) f, map-range_with_len_more f 0 k k (zero-add k), ← tabulate_maps k f, add-one k) (append_snoc (tabulate k f) (f k) (drop (suc k) l))))
 
 -- the entry that is filled next is still l's
 pub fill_read : (l h : List Float) (f : ℕ → Float) (k : ℕ) → h ≡ filled l f k → k < length l → h ! k ≡ l ! k
-fill_read l h f k e i =
-    ap (λ (t : List Float). t ! k) e
-    ∙ ap (λ (t : List Float). (tabulate k f ++ t) ! k) (drop-cons l k nan i)
-    ∙ get_or_at (tabulate k f) (l ! k) (drop (suc k) l) nan k (length_tabulate k f)
+fill_read l h f k e i = rw (e, drop-cons l k nan i) (get_or_at (tabulate k f) (l ! k) (drop (suc k) l) nan k (length_tabulate k f))
 
 pub fill_all : (l h : List Float) (f : ℕ → Float) (k n : ℕ) → h ≡ filled l f k → k ≡ n → length l ≡ n → h ≡ tabulate n f
-fill_all l h f k n e g i =
-    e
-    ∙ ap (λ (m : ℕ). filled l f m) g
-    ∙ ap (λ (m : ℕ). tabulate n f ++ drop m l) (sym i)
-    ∙ ap (λ (t : List Float). tabulate n f ++ t) (drop-length l)
-    ∙ append-nil (tabulate n f)
+fill_all l h f k n e g i = let d : drop n l ≡ [] = rw i at (drop-length l) in rw (e, g, d, append-nil) refl
 
 -- ---- an array of n entries that begins as +0 everywhere
 
@@ -79,36 +69,31 @@ array_full n h f k e g = fill_all (cleared n) h f k n e g (length_tabulate n (λ
 unfoldable pub by_rows : ℕ → (ℕ → ℕ → Float) → ℕ → Float
 by_rows w g k = g (k / w) (k % w)
 
--- an entry is the row's and the column's
-at_place : (w i j k : ℕ) (g : ℕ → ℕ → Float) (v : Float) → v ≡ g i j → k / w ≡ i → k % w ≡ j → v ≡ by_rows w g k
-unfolding by_rows
-at_place w i j k g v e p q = rw (p, q) e
+-- entry k is row i's and column j's, and the next one to be filled
+record Place (n w k i j next : ℕ) : Type 0 where
+  row : k / w ≡ i
+  column : k % w ≡ j
+  inside : k < n
+  then : next ≡ k + 1
 
-three_places : (n : ℕ) (h : List Float) (f : ℕ → Float) (k : ℕ) (u v w : Float) → h ≡ filled_of n f k → u ≡ f k → v ≡ f (k + 1) → w ≡ f (k + 2) → k + 2 < n
-    → set (set (set h k u) (k + 1) v) (k + 2) w ≡ filled_of n f (k + 2 + 1)
-three_places n h f k u v w e a b c i =
-    let first = array_next n h f k u e a (omega arith) in
-    let second = array_next n _ f (k + 1) v first b (omega arith) in
-    let place : k + 1 + 1 ≡ k + 2 = omega arith in
-    array_next n _ f (k + 2) w (second ∙ ap (λ (m : ℕ). filled_of n f m) place) c i
+place_next : (n w : ℕ) (h : List Float) (g : ℕ → ℕ → Float) (k i j next : ℕ) (v : Float) → h ≡ filled_of n (by_rows w g) k → v ≡ g i j → Place n w k i j next
+    → set h k v ≡ filled_of n (by_rows w g) next
+unfolding by_rows
+place_next n w h g k i j next v e a p = rw p.then (array_next n h (by_rows w g) k v e (rw (p.row, p.column) a) p.inside)
 
 pub row_of_three : (n : ℕ) (h : List Float) (g : ℕ → ℕ → Float) (i : ℕ) (u v w : Float) → h ≡ filled_of n (by_rows 3 g) (3 * i) → u ≡ g i 0 → v ≡ g i 1 → w ≡ g i 2
     → 3 * i + 2 < n → set (set (set h (3 * i) u) (3 * i + 1) v) (3 * i + 2) w ≡ filled_of n (by_rows 3 g) (3 * (i + 1))
 row_of_three n h g i u v w e a b c l =
-    let last : 3 * i + 2 + 1 ≡ 3 * (i + 1) = omega arith in
-    three_places n h (by_rows 3 g) (3 * i) u v w e (at_place 3 i 0 (3 * i) g u a (omega arith) (omega arith)) (at_place 3 i 1 (3 * i + 1) g v b (omega arith) (omega arith))
-    (at_place 3 i 2 (3 * i + 2) g w c (omega arith) (omega arith))
-    l
-    ∙ ap (λ (m : ℕ). filled_of n (by_rows 3 g) m) last
+    let first = place_next n 3 h g (3 * i) i 0 (3 * i + 1) u e a (grind arith) in
+    let second = place_next n 3 _ g (3 * i + 1) i 1 (3 * i + 2) v first b (grind arith) in
+    place_next n 3 _ g (3 * i + 2) i 2 (3 * (i + 1)) w second c (grind arith)
 
 pub row_of_five : (n : ℕ) (h : List Float) (g : ℕ → ℕ → Float) (i : ℕ) (u v w x y : Float) → h ≡ filled_of n (by_rows 5 g) (5 * i) → u ≡ g i 0 → v ≡ g i 1 → w ≡ g i 2
     → x ≡ g i 3 → y ≡ g i 4 → 5 * i + 4 < n
     → set (set (set (set (set h (5 * i) u) (5 * i + 1) v) (5 * i + 2) w) (5 * i + 3) x) (5 * i + 4) y ≡ filled_of n (by_rows 5 g) (5 * (i + 1))
 row_of_five n h g i u v w x y e a b c d p l =
-    let third = three_places n h (by_rows 5 g) (5 * i) u v w e (at_place 5 i 0 (5 * i) g u a (omega arith) (omega arith)) (at_place 5 i 1 (5 * i + 1) g v b (omega arith) (omega arith)) (at_place 5 i 2 (5 * i + 2) g w c (omega arith) (omega arith)) (omega arith) in
-    let place : 5 * i + 2 + 1 ≡ 5 * i + 3 = omega arith in
-    let fourth = array_next n _ (by_rows 5 g) (5 * i + 3) x (third ∙ ap (λ (m : ℕ). filled_of n (by_rows 5 g) m) place) (at_place 5 i 3 (5 * i + 3) g x d (omega arith) (omega arith)) (omega arith) in
-    let next : 5 * i + 3 + 1 ≡ 5 * i + 4 = omega arith in
-    let last : 5 * i + 4 + 1 ≡ 5 * (i + 1) = omega arith in
-    array_next n _ (by_rows 5 g) (5 * i + 4) y (fourth ∙ ap (λ (m : ℕ). filled_of n (by_rows 5 g) m) next) (at_place 5 i 4 (5 * i + 4) g y p (omega arith) (omega arith)) l
-    ∙ ap (λ (m : ℕ). filled_of n (by_rows 5 g) m) last
+    let first = place_next n 5 h g (5 * i) i 0 (5 * i + 1) u e a (grind arith) in
+    let second = place_next n 5 _ g (5 * i + 1) i 1 (5 * i + 2) v first b (grind arith) in
+    let third = place_next n 5 _ g (5 * i + 2) i 2 (5 * i + 3) w second c (grind arith) in
+    let fourth = place_next n 5 _ g (5 * i + 3) i 3 (5 * i + 4) x third d (grind arith) in
+    place_next n 5 _ g (5 * i + 4) i 4 (5 * (i + 1)) y fourth p (grind arith)

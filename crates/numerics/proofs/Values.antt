@@ -2,17 +2,19 @@
 -- size (`same_value`).
 -- So a fraction of that size is rounded to it (`round_value`). Assumes nothing.
 use mathlib.Core.Path.{◌≡◌, refl, sym, ap, ap₂, ◌∙◌, subst₂}
-use mathlib.Core.Bool.{Bool, false, ◌&&◌, cond}
-use Prim.Native.Nat.{ℕ, zero, suc, ◌+◌, ◌-◌, ◌*◌, ◌/◌, ◌%◌, ◌^◌, ◌≤◌, ◌<◌}
+use mathlib.Core.Bool.{Bool, false, cond}
+use Prim.Native.Nat.{ℕ, zero, suc, ◌+◌, ◌-◌, ◌*◌, ◌/◌, ◌^◌, ◌≤◌, ◌<◌}
+use native.Mathlib.Omega.{arith}
+use Rattle.std.proofs.lemmas.Bool.Decides.{nat_tests}
 use native.Mathlib.Nat.{le_trans, le_of_eq, le_of_suc-le-suc, lt_of_not-le, not-le_of_lt, mul_assoc, mul_comm, mul_right_comm, zero-mul, mul-one, one-mul, mul-pos, mul-le-mul_right, mul-lt-mul_of_pos_right, lt_of_mul-lt-mul_right, eq_of_mul-eq-mul_right}
 use lib.IntN.{ℤ, pos, negsuc}
-use lib.Dec.{T, leb, ltb, eqb, eqb→eq, leb→le, ltb→lt}
+use lib.Dec.{T, eqb→eq}
 use lib.Pow.{pow-add, pow_pos, pow-lt}
-use lib.Ieee.{Float, nan, inf, fin, Format, binary32, binary64, prec, emax, low, up, down, size, round, fits, hid, top, of_bits, to_bits}
+use lib.Ieee.{Float, fin, Format, binary32, binary64, prec, emax, low, up, down, size, round, fits, hid, top, of_bits, to_bits}
 use lib.Ieee.Bits.{of_bits-to_bits}
 use lib.Ieee.Digits.{back}
 use lib.Ieee.Exact.{HasValue, round_exact}
-use lib.Ieee.Fits.{and_l, and_r, up_pos, down_pos, round-fits}
+use lib.Ieee.Fits.{up_pos, down_pos, round-fits}
 use lib.Ieee.Nearest.{div_same}
 
 -- ---- of the values that a format holds, one has a given sign and size
@@ -26,10 +28,6 @@ cross m n d e a c C v w =
 -- the bits of a value depend on its sign and its size alone
 same_bits : (f : Format) (x y : Float) (s : Bool) (a c : ℕ) → 0 < c → HasValue x s a c → HasValue y s a c → to_bits f x ≡ to_bits f y
 unfolding to_bits
-same_bits f nan y s a c C v w = elim v [ ]
-same_bits f (inf _) y s a c C v w = elim v [ ]
-same_bits f (fin t m e) nan s a c C v w = elim w [ ]
-same_bits f (fin t m e) (inf _) s a c C v w = elim w [ ]
 same_bits f (fin t m e) (fin u n d) s a c C v w =
     let l = 2 ^ low f in
     let x = m * up e in
@@ -38,6 +36,7 @@ same_bits f (fin t m e) (fin u n d) s a c C v w =
     let q : x * l * down d ≡ y * l * down e = mul_right_comm x l (down d) ∙ ap (λ (z : ℕ). z * l) k ∙ mul_right_comm y (down e) l in
     ap₂ (λ (b : Bool) (z : ℕ). cond b (top f) 0 + (size z - prec f) * hid f + z / 2 ^ (size z - prec f)) (v.0 ∙ sym w.0)
     (div_same (x * l) (down e) (y * l) (down d) (down_pos e) (down_pos d) q)
+same_bits f x y s a c C v w = grind arith
 
 pub same_value : (f : Format) (x y : Float) (s : Bool) (a c : ℕ) → 0 < c → T (fits f x) → T (fits f y) → HasValue x s a c → HasValue y s a c → x ≡ y
 same_value f x y s a c C p q v w = sym (of_bits-to_bits f x p) ∙ ap (of_bits f) (same_bits f x y s a c C v w) ∙ of_bits-to_bits f y q
@@ -64,20 +63,9 @@ in_bounds f s zero e h = (
       (le_trans (mul-le-mul_right (down e) (up_pos e)) (le_trans (le_of_eq (eqb→eq (up e * down e) 1 h)) (pow_pos (low f)))),
   rw (zero-mul (up e)) (mul-pos (pow_pos (suc (emax f))) (down_pos e)),
 )
-in_bounds f s (suc m) e h =
-    let A = eqb (suc m % 2) 1 in
-    let B = ltb (suc m) (2 ^ prec f) in
-    let C = leb (down e) (2 ^ low f) in
-    let D = ltb (suc m * up e) (2 ^ suc (emax f) * down e) in
-    let abc = and_l (A && B && C) D h in (
-      ltb→lt (suc m) (2 ^ prec f) (and_r A B (and_l (A && B) C abc)),
-      leb→le (down e) (2 ^ low f) (and_r (A && B) C abc),
-      ltb→lt (suc m * up e) (2 ^ suc (emax f) * down e) (and_r (A && B && C) D h),
-    )
+in_bounds f s (suc m) e h = grind (arith, nat_tests)
 
 round_has : (f : Format) (x : Float) (s : Bool) (a c : ℕ) → 0 < c → T (fits f x) → HasValue x s a c → HasValue (round f s a c) s a c
-round_has f nan s a c C p v = elim v [ ]
-round_has f (inf _) s a c C p v = elim v [ ]
 round_has f (fin t m e) s a c C p v =
     let h = in_bounds f t m e p in
     let k = in_units (low f) e h.1 in
@@ -92,6 +80,7 @@ round_has f (fin t m e) s a c C p v =
     (eq_of_mul-eq-mul_right (down e) (down_pos e) (a * l) (m * 2 ^ j * c)
     (mul_right_comm a l (down e) ∙ ap (λ (z : ℕ). z * l) (sym v.1) ∙ mul_right_comm (m * up e) c l ∙ ap (λ (z : ℕ). z * c) q
     ∙ mul_right_comm (m * 2 ^ j) (down e) c))
+round_has f x s a c C p v = grind arith
 
 pub round_value : (f : Format) (x : Float) (s : Bool) (a c : ℕ) → 0 < c → T (fits f x) → HasValue x s a c → round f s a c ≡ x
 round_value f x s a c C p v = same_value f (round f s a c) x s a c C (round-fits f s a c) p (round_has f x s a c C p v) v
