@@ -13,6 +13,7 @@ pub fn every_list_over_c()
 
 /// Beside a refusal every number of a projection, a factor, a solution, a block, a point step and a
 /// whole step is +0 (docs/SPECIFICATION.md, "Refusals").
+#[tactic(auto, unfolding(linearization::specs::Linearize::zero_linearization, crate::specs::LayoutNumbers::block_numbers))]
 pub fn every_number_beside_a_refusal_is_zero()
     ensures { Zeros.EveryNumberIsZero }
 {}
