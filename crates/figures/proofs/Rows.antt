@@ -1,5 +1,4 @@
--- Every figure that document 01 marks ● is what the definitions give: antt computes each row.
--- Assumes nothing.
+-- Every figure of the table is what the definitions give: antt computes each row.
 use mathlib.Core.Path.{refl}
 use lib.Ieee.{neg, add, sub, mul, div, lt, eq, le, is_nan, of_bits, size, units}
 use Rattle.std.specs.Float.{float_is_finite, is_sign_negative}
