@@ -17,4 +17,4 @@ use Rattle.figures.specs.Table.{done, ◌and◌, EveryFigureHolds}
 pub every_figure_holds : EveryFigureHolds
 unfolding neg add sub mul div lt eq le is_nan of_bits size units is_sign_negative float_is_finite abs magnitude max sqrt is_in_front residual_and_jacobian all_finite pixel_projection largest_diagonal damping_diagonal_of damping_diagonal with_added_diagonal damped_matrix scale_of cholesky_of has_valid_pivots inverse_of inverse_by invert factor_damped infinity_norm inverse_matrix reciprocal_condition_number FactorWithRcond.factor is_valid_damping FactorWithRcond.factor_with_rcond limit_pose_step
 every_figure_holds =
-    refl and refl and refl and refl and refl and refl and refl and refl and refl and refl and refl and refl and refl and refl and refl and refl and done
+    refl and refl and refl and refl and refl and refl and refl and refl and refl and refl and refl and refl and refl and refl and refl and refl and refl and refl and done

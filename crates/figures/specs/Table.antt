@@ -30,9 +30,9 @@ camera fx fy cx cy skew = record { fx = fx; fy = fy; cx = cx; cy = cy; skew = sk
 abbrev pub diagonal : Float → Float → Float → List Float
 diagonal a b c = a ∷ zero ∷ zero ∷ zero ∷ b ∷ zero ∷ zero ∷ zero ∷ c ∷ []
 
--- the rcond of a block that factors at damping 0, or the refusal
-abbrev pub rcond_of : List Float → Result Float Refusal
-rcond_of m = map_ok (λ (f : ConditionedFactor). f.rcond) (factor_with_rcond m zero)
+-- the rcond of a block that factors at a damping, or the refusal
+abbrev pub rcond_of : List Float → Float → Result Float Refusal
+rcond_of m damping = map_ok (λ (f : ConditionedFactor). f.rcond) (factor_with_rcond m damping)
 
 -- whether a block factors at damping 0, and whether `add` counts it weak
 abbrev pub weak_of : List Float → Bool × Result Bool Refusal
@@ -48,10 +48,10 @@ pub data Row : Type 0 where
   projection : PinholeCamera → List Float → List Float → List Float → List Float → Row
   -- camera, observation and point are refused, or accepted
   projection_refused projection_accepted : PinholeCamera → List Float → List Float → Row
-  -- a block is refused at a damping, or factors
-  factor_refused factor_accepted : List Float → Float → Row
-  -- at damping 0 a block factors, with this rcond
-  rcond : List Float → Float → Row
+  -- a block does not factor at a damping
+  factor_refused : List Float → Float → Row
+  -- a block factors at a damping, with this rcond
+  rcond : List Float → Float → Float → Row
   -- at damping 0 a block factors, and is weak or not
   block_is_weak block_is_not_weak : List Float → Row
   -- a pose step is limited to another
@@ -65,8 +65,7 @@ RowHolds (projection c seen point r j) =
 RowHolds (projection_refused c seen point) = pixel_projection c seen point ≡ Err NotProjectable
 RowHolds (projection_accepted c seen point) = is_ok (pixel_projection c seen point) ≡ true
 RowHolds (factor_refused m damping) = factor_with_rcond m damping ≡ Err NotFactored
-RowHolds (factor_accepted m damping) = is_ok (factor_with_rcond m damping) ≡ true
-RowHolds (rcond m r) = rcond_of m ≡ Ok r
+RowHolds (rcond m damping r) = rcond_of m damping ≡ Ok r
 RowHolds (block_is_weak m) = weak_of m ≡ (true, Ok true)
 RowHolds (block_is_not_weak m) = weak_of m ≡ (true, Ok false)
 RowHolds (limit x y) = limit_pose_step x ≡ y
@@ -94,19 +93,21 @@ table =
     ∷ projection_accepted (camera one one zero zero zero) (zero ∷ zero ∷ [])
     (one ∷ zero ∷ bits 0x3d10_0000_0000_0001 ∷ [])
     -- (4, 1, 1) rcond 0.25
-    ∷ rcond (diagonal (bits 0x4010_0000_0000_0000) one one) (bits 0x3fd0_0000_0000_0000)
+    ∷ rcond (diagonal (bits 0x4010_0000_0000_0000) one one) zero (bits 0x3fd0_0000_0000_0000)
     -- (1, 1, 2^-46) factors, rcond 2^-46, weak
-    ∷ rcond (diagonal one one (bits 0x3d10_0000_0000_0000)) (bits 0x3d10_0000_0000_0000)
+    ∷ rcond (diagonal one one (bits 0x3d10_0000_0000_0000)) zero (bits 0x3d10_0000_0000_0000)
     ∷ block_is_weak (diagonal one one (bits 0x3d10_0000_0000_0000))
-    -- (1, 1, 2^-44) not weak
+    -- (1, 1, 2^-44) factors, rcond 2^-44, not weak
+    ∷ rcond (diagonal one one (bits 0x3d30_0000_0000_0000)) zero (bits 0x3d30_0000_0000_0000)
     ∷ block_is_not_weak (diagonal one one (bits 0x3d30_0000_0000_0000))
     -- (1, 1, 2^-92) refused
     ∷ factor_refused (diagonal one one (bits 0x3a30_0000_0000_0000)) zero
-    -- (1, 1, 2^-91) factors
-    ∷ factor_accepted (diagonal one one (bits 0x3a40_0000_0000_0000)) zero
-    -- diagonal (1, 1, 0): refused at damping 0, factors at 1
+    -- (1, 1, 2^-91) factors, rcond 3A40000000000001, weak
+    ∷ rcond (diagonal one one (bits 0x3a40_0000_0000_0000)) zero (bits 0x3a40_0000_0000_0001)
+    ∷ block_is_weak (diagonal one one (bits 0x3a40_0000_0000_0000))
+    -- (1, 1, 0) refused at damping 0; at damping 1 it factors, rcond 2^-46
     ∷ factor_refused (diagonal one one zero) zero
-    ∷ factor_accepted (diagonal one one zero) one
+    ∷ rcond (diagonal one one zero) one (bits 0x3d10_0000_0000_0000)
     -- pose step (1, 0, 0, 0, 0) limited to (0.5, 0, 0, 0, 0); (0.5, 0, 0, 0, 0) unchanged
     ∷ limit (one ∷ zero ∷ zero ∷ zero ∷ zero ∷ []) (half ∷ zero ∷ zero ∷ zero ∷ zero ∷ [])
     ∷ limit (half ∷ zero ∷ zero ∷ zero ∷ zero ∷ []) (half ∷ zero ∷ zero ∷ zero ∷ zero ∷ [])
