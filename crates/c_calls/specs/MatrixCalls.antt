@@ -1,11 +1,10 @@
 -- The outcomes of the calls on matrices, c_calls/src/matrix_calls.rt: row 1 unless every array has
 -- its length, then what the call of the same name gives (docs/SPECIFICATION.md, "Point block" and
 -- "Solve"). A matrix stands by rows. An inverse is packed: 00, 10, 11, 20, 21, 22.
-use Rattle.std.specs.Prelude.{◌&&◌, if◌then◌else◌, List, [], ◌∷◌, Float, Ok, Err}
+use Rattle.std.specs.Prelude.{◌&&◌, List, [], ◌∷◌, Float, Ok}
 use Rattle.numerics.specs.Vectors.{◌!◌}
 use Rattle.refusal.specs.Outcome.{Outcome, outcome}
-use Rattle.refusal.specs.Chain.{map_ok}
-use Rattle.refusal.specs.declared.Refusal.TheVariants.{Damping}
+use Rattle.refusal.specs.Chain.{◌>>=◌, map_ok}
 use Rattle.point_block.specs.declared.PointBlockFactor.{PointBlockFactor}
 use Rattle.point_block.specs.Damping as PointDamping
 use Rattle.point_block.specs.Factor as Factor
@@ -31,10 +30,7 @@ damping_diagonal matrix out =
 unfoldable pub damped_matrix : List Float → Float → List Float → Outcome (List Float)
 damped_matrix matrix damping out =
     let fits = has_length matrix 9 && has_length out 9 in
-    let damped =
-    if PointDamping.is_valid_damping damping
-    then PointDamping.damped_matrix matrix damping
-    else Err Damping in
+    let damped = PointDamping.valid_damping damping >>= PointDamping.damped_matrix matrix in
     outcome out (if_lengths_fit fits damped)
 
 -- the packed inverse of a matrix that is damped already

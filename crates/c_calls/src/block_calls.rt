@@ -64,7 +64,7 @@ pub fn linearize_point(rig: &[f64], correspondence: &[f64], out: &mut [f64]) -> 
 /// The step of a point that goes with a step of the pose, in units of the baseline, and its
 /// damping norm.
 ///
-/// - `block` (59): as `linearize_point` writes it
+/// - `block` (59): laid out as by `linearize_point`
 /// - `pose_step` (5): rotation (3), translation (2)
 /// - `out` (4): step (3), damping norm
 ///

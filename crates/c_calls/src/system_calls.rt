@@ -31,8 +31,8 @@ pub fn system_new(system: &mut [f64], counts: &mut [u16]) -> u64
 
 /// The lent system takes in a block at a damping: the Schur complement of its point.
 ///
-/// - `system` (45), `counts` (3): as `system_new` writes them
-/// - `block` (59): as `linearize_point` writes it
+/// - `system` (45), `counts` (3): laid out as by `system_new`
+/// - `block` (59): laid out as by `linearize_point`
 ///
 /// Refuses: row 1, then row 3, then row 12, then row 13.
 /// The formula: `schur::add`.
@@ -51,7 +51,7 @@ pub fn system_add(system: &mut [f64], counts: &mut [u16], block: &[f64], damping
 
 /// The lent system with the damping added to the diagonal of its Hessian.
 ///
-/// - `system` (45), `counts` (3): as `system_new` writes them
+/// - `system` (45), `counts` (3): laid out as by `system_new`
 ///
 /// Refuses: row 1, then row 3.
 /// The formula: `ReducedSystem::finish_damping` of `schur`.
@@ -70,7 +70,7 @@ pub fn system_finish_damping(system: &mut [f64], counts: &mut [u16], damping: f6
 
 /// Whether the flag is true, and gradient and Hessian are finite.
 ///
-/// - `system` (45), `counts` (3): as `system_new` writes them
+/// - `system` (45), `counts` (3): laid out as by `system_new`
 /// - `out` (1): 1 or 0
 ///
 /// Refuses: row 1.
@@ -90,7 +90,7 @@ pub fn system_is_valid(system: &[f64], counts: &[u16], out: &mut [u16]) -> u64
 
 /// The largest scaled gradient entry, of the points and of the pose.
 ///
-/// - `system` (45), `counts` (3): as `system_new` writes them
+/// - `system` (45), `counts` (3): laid out as by `system_new`
 /// - `out` (1)
 ///
 /// Refuses: row 1.
@@ -109,7 +109,7 @@ pub fn system_scaled_gradient_inf_norm(system: &[f64], counts: &[u16], out: &mut
 
 /// The reduction of the cost that the quadratic model predicts for a step of the pose.
 ///
-/// - `system` (45), `counts` (3): as `system_new` writes them
+/// - `system` (45), `counts` (3): laid out as by `system_new`
 /// - `step` (5): rotation (3), translation (2)
 /// - `out` (1)
 ///

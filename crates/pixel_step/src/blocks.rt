@@ -1,4 +1,5 @@
 //! The block of one point, and the point's step. A block is 59 numbers.
+
 ghost use Rattle.c_calls.specs.Outcomes as Outcomes;
 ghost use Rattle.c_calls.specs.PointCalls as Calls;
 
@@ -29,7 +30,7 @@ pub extern "C" fn pixel_step_linearize_point(
 /// The step of a point that goes with a step of the pose, in units of the baseline, and its
 /// damping norm.
 ///
-/// - `block` (59): as `pixel_step_linearize_point` writes it
+/// - `block` (59): laid out as by `pixel_step_linearize_point`
 /// - `pose_step` (5): rotation (3), translation (2)
 /// - `out` (4): step (3), damping norm
 ///

@@ -1,5 +1,6 @@
 //! The helpers on single numbers (docs/SPECIFICATION.md, "Numbers"). Each takes every binary64 and
 //! refuses nothing.
+
 ghost use Rattle.std.specs.Prelude.{◌≡◌};
 ghost use Rattle.std.specs.Float.{float_is_finite};
 ghost use Rattle.std.specs.Float.Ieee as Ieee;

@@ -1,5 +1,6 @@
 //! The 3 by 3 point block. A matrix is 9 numbers by rows; an inverse is 6, packed as 00, 10, 11,
 //! 20, 21, 22.
+
 ghost use Rattle.c_calls.specs.Outcomes as Outcomes;
 ghost use Rattle.c_calls.specs.MatrixCalls as Calls;
 

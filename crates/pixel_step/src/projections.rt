@@ -1,4 +1,5 @@
 //! The projection of a point in one camera.
+
 ghost use Rattle.c_calls.specs.Outcomes as Outcomes;
 ghost use Rattle.c_calls.specs.PointCalls as Calls;
 

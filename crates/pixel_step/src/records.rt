@@ -1,4 +1,5 @@
 //! The list of a run record.
+
 ghost use Rattle.pixel_step.specs.Interface as Interface;
 
 use run_list::record;

@@ -1,4 +1,5 @@
 //! The 5 by 5 solve.
+
 ghost use Rattle.c_calls.specs.Outcomes as Outcomes;
 ghost use Rattle.c_calls.specs.MatrixCalls as Calls;
 

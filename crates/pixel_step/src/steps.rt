@@ -1,4 +1,5 @@
 //! One whole step of the two-view problem, and the limit of the pose step.
+
 ghost use Rattle.problem.specs.Problem as Problem;
 ghost use Rattle.c_calls.specs.Outcomes as Outcomes;
 ghost use Rattle.c_calls.specs.Layout as Layout;

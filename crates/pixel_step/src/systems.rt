@@ -1,5 +1,6 @@
 //! The reduced system: 45 numbers, and beside them the weak point count, the block count and the
 //! flag.
+
 ghost use Rattle.c_calls.specs.Outcomes as Outcomes;
 ghost use Rattle.c_calls.specs.SystemCalls as Calls;
 
@@ -23,8 +24,8 @@ pub extern "C" fn pixel_step_system_new(system: &mut [f64], counts: &mut [u16]) 
 
 /// The lent system takes in a block at a damping: the Schur complement of its point.
 ///
-/// - `system` (45), `counts` (3): as `pixel_step_system_new` writes them
-/// - `block` (59): as `pixel_step_linearize_point` writes it
+/// - `system` (45), `counts` (3): laid out as by `pixel_step_system_new`
+/// - `block` (59): laid out as by `pixel_step_linearize_point`
 ///
 /// Refuses: row 1, then row 3, then row 12, then row 13.
 /// The formula: `c_calls::system_calls::system_add`.
@@ -43,7 +44,7 @@ pub extern "C" fn pixel_step_system_add(
 
 /// The lent system with the damping added to the diagonal of its Hessian.
 ///
-/// - `system` (45), `counts` (3): as `pixel_step_system_new` writes them
+/// - `system` (45), `counts` (3): laid out as by `pixel_step_system_new`
 ///
 /// Refuses: row 1, then row 3.
 /// The formula: `c_calls::system_calls::system_finish_damping`.
@@ -61,7 +62,7 @@ pub extern "C" fn pixel_step_system_finish_damping(
 
 /// Whether the flag is true, and gradient and Hessian are finite.
 ///
-/// - `system` (45), `counts` (3): as `pixel_step_system_new` writes them
+/// - `system` (45), `counts` (3): laid out as by `pixel_step_system_new`
 /// - `out` (1): 1 or 0
 ///
 /// Refuses: row 1.
@@ -76,7 +77,7 @@ pub extern "C" fn pixel_step_system_is_valid(system: &[f64], counts: &[u16], out
 
 /// The largest scaled gradient entry, of the points and of the pose.
 ///
-/// - `system` (45), `counts` (3): as `pixel_step_system_new` writes them
+/// - `system` (45), `counts` (3): laid out as by `pixel_step_system_new`
 /// - `out` (1)
 ///
 /// Refuses: row 1.
@@ -95,7 +96,7 @@ pub extern "C" fn pixel_step_system_scaled_gradient_inf_norm(
 
 /// The reduction of the cost that the quadratic model predicts for a step of the pose.
 ///
-/// - `system` (45), `counts` (3): as `pixel_step_system_new` writes them
+/// - `system` (45), `counts` (3): laid out as by `pixel_step_system_new`
 /// - `step` (5): rotation (3), translation (2)
 /// - `out` (1)
 ///
