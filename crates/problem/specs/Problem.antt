@@ -10,7 +10,6 @@ use Rattle.projection.specs.PixelProjection.{pixel_projection}
 use Rattle.projection.specs.declared.Projection.{Projection}
 use Rattle.linearization.specs.declared.views.Correspondence.{Correspondence}
 use Rattle.linearization.specs.declared.views.Rig.{Rig}
-use Rattle.problem.specs.declared.correspondences.Problem as Lent
 
 -- three numbers a point, two a point in each view, one a point
 pub record Problem : Type 0 where
@@ -23,10 +22,6 @@ pub record Problem : Type 0 where
 
 abbrev pub problem : List Float → List Float → List Float → List Float → Rig → Float → Problem
 problem points view1 view2 inverse_standard_deviations rig damping = record { points = points; view1 = view1; view2 = view2; inverse_standard_deviations = inverse_standard_deviations; rig = rig; damping = damping }
-
--- the problem that lent lists make
-abbrev pub of : Lent.Problem → Problem
-of p = problem p.points.now p.view1.now p.view2.now p.inverse_standard_deviations.now p.rig p.damping
 
 -- n, where the lengths belong to one count
 abbrev pub count : Problem → ℕ

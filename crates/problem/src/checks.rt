@@ -35,13 +35,13 @@ pub struct ReadableProblem<'a> {
 impl<'a> Model for ReadableProblem<'a> {
     ghost use Rattle.std.specs.Prelude.{◌≡◌, IsTrue};
     ghost use Rattle.point_block.specs.Damping.{is_valid_damping};
-    ghost use Rattle.problem.specs.Problem.{Problem, of};
+    ghost use Rattle.problem.specs.Problem.{Problem};
 
     ghost Value = { Problem };
 
-    ghost view = { λ r. of r.fitting.problem.now };
+    ghost view = { λ r. r.fitting };
 
-    ghost invariant = { λ r. (r.damping ≡ r.fitting.problem.now.damping) × IsTrue (is_valid_damping r.damping) };
+    ghost invariant = { λ r. (r.damping ≡ r.fitting.damping) × IsTrue (is_valid_damping r.damping) };
 }
 
 /// A problem that rows 1 to 9 let through, row 1 without the room
@@ -66,8 +66,8 @@ impl<'a> ReadableProblem<'a> {
     /// Tests rows 1 to 3, row 1 without the room.
     #[tactic(auto, unfolding(crate::specs::Checks::check_readable))]
     pub fn new(problem: &'a Problem<'a>) -> Result<ReadableProblem<'a>, Refusal>
-        ensures { result ≡ result_and (Checks.check_readable (Problems.of problem.now))
-            (Ok (Problems.of problem.now)) }
+        ensures { result ≡ result_and (Checks.check_readable problem.now)
+            (Ok problem.now) }
     {
         let n = problem.count();
         let fit = belongs(problem.points.len(), 3, n)
@@ -85,10 +85,10 @@ impl<'a> ReadableProblem<'a> {
     }
 
     /// The problem as one whose lengths fit
-    pub fn fitting(&self) -> FittingProblem<'a>
-        ensures { Problems.of result.problem.now ≡ self.now }
+    pub fn fitting(&self) -> &FittingProblem<'a>
+        ensures { result.now ≡ self.now }
     {
-        self.fitting
+        &self.fitting
     }
 
     /// The problem's damping
@@ -107,7 +107,7 @@ impl<'a> ReadableProblem<'a> {
         ensures passes { result ≡ true → Checks.AcceptsFirst self.now (Problems.count self.now)
             → Checks.check_problem self.now ≡ Ok tt }
     {
-        is_valid_baseline(self.fitting.problem.rig.pose.baseline)
+        is_valid_baseline(self.fitting.rig().pose.baseline)
             & (self.fitting.count() >= MINIMUM_POINTS)
     }
 }
@@ -116,8 +116,8 @@ impl<'a> CheckedProblem<'a> {
     /// Tests rows 1 to 9, row 1 without the room.
     #[tactic(auto, using(crate::proofs::Passed::refused_first))]
     pub fn new(problem: &'a Problem<'a>) -> Result<CheckedProblem<'a>, Refusal>
-        ensures { result ≡ result_and (Checks.check_problem (Problems.of problem.now))
-            (Ok (Problems.of problem.now)) }
+        ensures { result ≡ result_and (Checks.check_problem problem.now)
+            (Ok problem.now) }
     {
         Self::of(ReadableProblem::new(problem)?)
     }
@@ -132,8 +132,8 @@ impl<'a> CheckedProblem<'a> {
     }
 
     /// The problem as one whose lengths fit
-    pub fn fitting(&self) -> FittingProblem<'a>
-        ensures problem { Problems.of result.problem.now ≡ self.now }
+    pub fn fitting(&self) -> &FittingProblem<'a>
+        ensures problem { result.now ≡ self.now }
         ensures checked { Checks.check_problem self.now ≡ Ok tt }
     {
         self.readable.fitting()
@@ -158,12 +158,12 @@ fn belongs(length: usize, each: usize, n: usize) -> bool
 
 // Rows 4 to 9, where row 3 lets the damping through
 #[tactic(auto, unfolding(crate::specs::Checks::check_values))]
-fn check_values(fitting: FittingProblem) -> Result<(), Refusal>
-    requires { IsTrue (is_valid_damping fitting.problem.now.damping) }
-    ensures { result ≡ Checks.check_values (Problems.of fitting.entry.problem.now) }
+fn check_values(fitting: &FittingProblem) -> Result<(), Refusal>
+    requires { IsTrue (is_valid_damping fitting.now.damping) }
+    ensures { result ≡ Checks.check_values fitting.now }
 {
     check_inverse_standard_deviations(fitting)?;
-    if !is_valid_baseline(fitting.problem.rig.pose.baseline) {
+    if !is_valid_baseline(fitting.rig().pose.baseline) {
         return Err(Refusal::Baseline);
     }
     check_points(fitting)?;
@@ -175,16 +175,12 @@ fn check_values(fitting: FittingProblem) -> Result<(), Refusal>
 
 // Row 4
 #[tactic(auto, using(refusal::proofs::Scans::leaves, refusal::proofs::Scans::goes_on, refusal::proofs::Scans::ends))]
-fn check_inverse_standard_deviations(fitting: FittingProblem) -> Result<(), Refusal>
-    ensures { result ≡ FirstRefusal.first_refusal_from (Checks.check_inverse_standard_deviation (Problems.of fitting.entry.problem.now).inverse_standard_deviations) 0
-        (Problems.count (Problems.of fitting.entry.problem.now)) }
+fn check_inverse_standard_deviations(fitting: &FittingProblem) -> Result<(), Refusal>
+    ensures { result ≡ FirstRefusal.first_refusal_from (Checks.check_inverse_standard_deviation fitting.now.inverse_standard_deviations) 0
+        (Problems.count fitting.now) }
 {
-    for (i, x) in fitting
-        .problem
-        .inverse_standard_deviations
-        .iter()
-        .enumerate()
-    {
+    let problem = fitting.problem;
+    for (i, x) in problem.inverse_standard_deviations.iter().enumerate() {
         if !views::is_valid_inverse_standard_deviation(*x) {
             return Err(Refusal::InverseStandardDeviation { index: i as u32 });
         }
@@ -202,9 +198,9 @@ fn is_valid_baseline(baseline: f64) -> bool
 
 // Row 6
 #[tactic(auto, using(refusal::proofs::Scans::leaves, refusal::proofs::Scans::goes_on, refusal::proofs::Scans::ends))]
-fn check_points(fitting: FittingProblem) -> Result<(), Refusal>
-    ensures { result ≡ FirstRefusal.first_refusal_from (Checks.check_point (Problems.of fitting.entry.problem.now).points) 0
-        (Problems.count (Problems.of fitting.entry.problem.now)) }
+fn check_points(fitting: &FittingProblem) -> Result<(), Refusal>
+    ensures { result ≡ FirstRefusal.first_refusal_from (Checks.check_point fitting.now.points) 0
+        (Problems.count fitting.now) }
 {
     for index in 0..fitting.count() {
         let point = ProblemPoint { fitting, index };
@@ -217,8 +213,8 @@ fn check_points(fitting: FittingProblem) -> Result<(), Refusal>
 
 // Rows 8 and 9
 #[tactic(auto, unfolding(crate::specs::Checks::check_both_views))]
-fn check_both_views(fitting: FittingProblem) -> Result<(), Refusal>
-    ensures { result ≡ Checks.check_both_views (Problems.of fitting.entry.problem.now) }
+fn check_both_views(fitting: &FittingProblem) -> Result<(), Refusal>
+    ensures { result ≡ Checks.check_both_views fitting.now }
 {
     check_view(fitting, View::First)?;
     check_view(fitting, View::Second)?;
@@ -227,9 +223,9 @@ fn check_both_views(fitting: FittingProblem) -> Result<(), Refusal>
 
 // Row 8 for one view
 #[tactic(auto, using(refusal::proofs::Scans::leaves, refusal::proofs::Scans::goes_on, refusal::proofs::Scans::ends))]
-fn check_view(fitting: FittingProblem, view: View) -> Result<(), Refusal>
-    ensures { result ≡ FirstRefusal.first_refusal_from (Checks.check_observation (Problems.of fitting.entry.problem.now) view) 0
-        (Problems.count (Problems.of fitting.entry.problem.now)) }
+fn check_view(fitting: &FittingProblem, view: View) -> Result<(), Refusal>
+    ensures { result ≡ FirstRefusal.first_refusal_from (Checks.check_observation fitting.now view) 0
+        (Problems.count fitting.now) }
 {
     for index in 0..fitting.count() {
         let point = ProblemPoint { fitting, index };
@@ -242,16 +238,16 @@ fn check_view(fitting: FittingProblem, view: View) -> Result<(), Refusal>
 
 // Row 9: both loops are left at the first view that does not project.
 #[tactic(auto, using(refusal::proofs::Scans::leaves, refusal::proofs::Scans::goes_on, refusal::proofs::Scans::ends))]
-fn check_projections(fitting: FittingProblem) -> Result<(), Refusal>
-    ensures { result ≡ FirstRefusal.first_refusal_from (Checks.check_projection (Problems.of fitting.entry.problem.now)) 0
-        (Problems.count (Problems.of fitting.entry.problem.now)) }
+fn check_projections(fitting: &FittingProblem) -> Result<(), Refusal>
+    ensures { result ≡ FirstRefusal.first_refusal_from (Checks.check_projection fitting.now) 0
+        (Problems.count fitting.now) }
 {
     let mut checked = Ok(());
     'points: for index in 0..fitting.count() {
         let point = ProblemPoint { fitting, index };
         'views: for view in [View::First, View::Second] {
             let projected = correspondences::project(
-                &fitting.problem.rig,
+                fitting.rig(),
                 view,
                 point.seen(view),
                 point.coordinates(),
