@@ -9,7 +9,7 @@ use native.Mathlib.Nat.{add-zero, add-suc, suc-add, zero-add}
 use native.Mathlib.Numerals.{add-one}
 use native.Mathlib.Omega.{arith}
 use borrow.Author.Tests.{lt-ltb}
-use lib.Dec.{T, leb, ltb, le→leb}
+use lib.Dec.{leb, ltb, le→leb}
 use lib.Ieee.{Float, is_nan}
 use lib.Ieee.Bits.{is_true, is_false}
 use mathlib.Core.Logic.{◌⊎◌, inl, inr}

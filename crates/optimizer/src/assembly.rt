@@ -45,7 +45,7 @@ pub(crate) fn add_blocks(problem: &ReadableProblem, system: &mut ReducedSystem) 
         let TestedBlock {
             block,
             accepted: passes,
-        } = linearization::tested_block(&fitting.problem.rig, point.correspondence());
+        } = linearization::tested_block(fitting.rig(), point.correspondence());
         let Ok(()) = schur::take_in(system, block, damping) else {
             unreachable!()
         };

@@ -40,7 +40,7 @@ pub(crate) fn write_steps(
     let mut damping_norm = 0.0;
     for index in 0..fitting.count() {
         let point = ProblemPoint { fitting, index };
-        let terms = linearization::terms_of(&fitting.problem.rig, point.correspondence());
+        let terms = linearization::terms_of(fitting.rig(), point.correspondence());
         let Ok(moved) = point_step::damped_step(terms, damping, pose_step) else {
             unreachable!()
         };

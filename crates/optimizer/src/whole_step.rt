@@ -16,7 +16,7 @@ use schur::reduced_system::ReducedSystem;
 
 /// One step. Tests rows 1 to 11; refused, it leaves the room as it was.
 pub fn step(problem: &Problem, room: &mut [f64]) -> Result<StepResult, Refusal>
-    ensures { Steps.StepOutcome (Problems.of problem.now) room.old result room.new }
+    ensures { Steps.StepOutcome problem.now room.old result room.new }
 {
     // Where the two lengths differ, one of them is not 3n; where they do not, row 1 tests both.
     if room.len() != problem.points.len() {

@@ -7,11 +7,11 @@ use Rattle.optimizer.proofs.point_steps.write_steps.Goals as goal
 
 pub unreachable-requires : goal.unreachable-requires
 unreachable-requires c =
-    c.in_default.not-Ok _ (moved_is c.args.problem.now c.fitting-fitting.ensures.checked c.requires.valid c.args.pose_step c.loop-index.index (omega arith) _ _ _ _ _ c.fitting-fitting.ensures.problem c.correspondence.ensures c.terms_of-terms.ensures c.damping-damping.ensures c.damped_step.ensures.result)
+    c.in_default.not-Ok _ (moved_is c.args.problem.now c.fitting-fitting.ensures.checked c.requires.valid c.args.pose_step c.loop-index.index (omega arith) _ _ _ _ _ _ c.fitting-fitting.ensures.problem c.correspondence.ensures c.rig.ensures c.terms_of-terms.ensures c.damping-damping.ensures c.damped_step.ensures.result)
 
 pub loop-index-preserved : goal.loop-index-preserved
 loop-index-preserved c =
-    let k = moved_is c.args.problem.now c.fitting-fitting.ensures.checked c.requires.valid c.args.pose_step c.loop-index.index (omega arith) _ _ _ _ _ c.fitting-fitting.ensures.problem c.correspondence.ensures c.terms_of-terms.ensures c.damping-damping.ensures c.damped_step.ensures.result in
+    let k = moved_is c.args.problem.now c.fitting-fitting.ensures.checked c.requires.valid c.args.pose_step c.loop-index.index (omega arith) _ _ _ _ _ _ c.fitting-fitting.ensures.problem c.correspondence.ensures c.rig.ensures c.terms_of-terms.ensures c.damping-damping.ensures c.damped_step.ensures.result in
     let e : c.in-Ok.moved ≡ step_at c.args.problem.now c.args.pose_step c.loop-index.index = cc in
     let step = ap (λ (m : PointStep). m.step) e in
     record {
