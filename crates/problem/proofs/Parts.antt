@@ -17,11 +17,14 @@ use Rattle.refusal.specs.declared.Refusal.{Refusal}
 use Rattle.refusal.specs.declared.Refusal.TheVariants.{PointNotProjectable}
 use Rattle.refusal.specs.declared.View.{View}
 use Rattle.refusal.specs.declared.View.TheVariants.{First, Second}
-use Rattle.refusal.proofs.Scans.{Scanned}
+use Rattle.refusal.proofs.Scans.{Scanned, leaves, goes_on, ends}
 use Rattle.projection.specs.declared.Projection.{Projection}
 use Rattle.linearization.specs.declared.views.Rig.{Rig}
 use Rattle.problem.specs.Problem.{Problem, triple, observation, project}
 use Rattle.problem.specs.Checks.{check_view, check_projection}
+
+-- how a loop over indexes meets a scan for the first refusal
+pub ruleset scans = (leaves, goes_on, ends)
 
 -- by quotient and remainder
 pub multiple : (l e n : ℕ) → 0 < e → (eqb (l / e) n && eqb (l % e) 0) ≡ eqb l (e * n)

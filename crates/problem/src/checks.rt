@@ -1,12 +1,12 @@
 // SPDX-FileCopyrightText: 2026 Pierre Moulon and OpenMVG Rust contributors
 // SPDX-License-Identifier: MIT OR Apache-2.0
 
-// Rows 1 to 9 of a two-view problem over lent memory, which look at no sum:
-// kernel/two_view/optimizer.rs, residual.rs.
+//! Rows 1 to 9 of a two-view problem over lent memory, the rows that look at no sum: what
+//! `refine_impl` of kernel/two_view/optimizer.rs and `project` of residual.rs ask of their inputs.
 
 ghost use Rattle.std.specs.Prelude.{◌≡◌, ◌<◌, ◌*◌, ◌&&◌, ◌==◌, nat_le, true, Ok, IsTrue};
 ghost use Rattle.std.specs.Result.{result_and};
-ghost use Rattle.refusal.specs.FirstRefusal as FirstRefusal;
+ghost use Rattle.refusal.specs.FirstRefusal.{first_refusal_from};
 ghost use Rattle.point_block.specs.Damping.{is_valid_damping};
 ghost use Rattle.problem.specs.Problem as Problems;
 ghost use Rattle.problem.specs.Checks as Checks;
@@ -19,13 +19,15 @@ use point_block::point_damping::ValidDamping;
 use refusal::{Refusal, View};
 use std::marker::Model;
 
+// Row 7 refuses fewer points.
 const MINIMUM_POINTS: u32 = 5;
 
-// Row 2
+// Row 2 refuses more points.
 const MAXIMUM_POINTS: usize = 65535;
 
-/// A problem that rows 1 to 3 let through, row 1 without the room: its points can be read, and a
-/// system can take their blocks in at its damping.
+/// A problem that rows 1 to 3 let through: its points can be read, and a system can take their
+/// blocks in at its damping. Row 1 looks at the four inputs alone, and not at the memory for the
+/// point steps. In clauses it is the record `Problem`.
 #[derive(Drop)]
 pub struct ReadableProblem<'a> {
     fitting: FittingProblem<'a>,
@@ -41,12 +43,14 @@ impl<'a> Model for ReadableProblem<'a> {
 
     ghost view = { λ r. r.fitting };
 
-    ghost invariant = { λ r. (r.damping ≡ r.fitting.damping) × IsTrue (is_valid_damping r.damping) };
+    ghost invariant = { λ r. (r.damping ≡ r.fitting.damping)
+        × IsTrue (is_valid_damping r.damping) };
 }
 
-/// A problem that rows 1 to 9 let through, row 1 without the room
+/// A problem that rows 1 to 9 let through. In clauses it is the record `Problem`.
 #[derive(Drop)]
 pub struct CheckedProblem<'a> {
+    /// The same problem, as rows 1 to 3 let it through
     pub readable: ReadableProblem<'a>,
 }
 
@@ -63,11 +67,10 @@ impl<'a> Model for CheckedProblem<'a> {
 }
 
 impl<'a> ReadableProblem<'a> {
-    /// Tests rows 1 to 3, row 1 without the room.
+    /// The problem, as one whose points can be read. Refuses: row 1, row 2, then row 3.
     #[tactic(auto, unfolding(crate::specs::Checks::check_readable))]
     pub fn new(problem: &'a Problem<'a>) -> Result<ReadableProblem<'a>, Refusal>
-        ensures { result ≡ result_and (Checks.check_readable problem.now)
-            (Ok problem.now) }
+        ensures { result ≡ result_and (Checks.check_readable problem.now) (Ok problem.now) }
     {
         let n = problem.count();
         let fit = belongs(problem.points.len(), 3, n)
@@ -91,15 +94,16 @@ impl<'a> ReadableProblem<'a> {
         &self.fitting
     }
 
-    /// The problem's damping
+    /// The problem's damping λ, finite and not below 0
     pub fn damping(&self) -> ValidDamping
         ensures { result ≡ self.now.damping }
     {
         self.damping
     }
 
-    /// Whether rows 5 and 7 let it through, which look at no point. Where rows 4 and 9 let each
-    /// point through as well, so do rows 1 to 9.
+    /// Whether rows 5 and 7, which look at no point, let the problem through. Where rows 4 and 9
+    /// let each point through as well, by themselves, so do rows 1 to 9 as a whole: rows 6 and 8
+    /// are then settled by row 9.
     #[tactic(auto, using(crate::proofs::Passed::accepted_passes))]
     pub fn passes_rows_5_and_7(&self) -> bool
         ensures rows { result ≡ (Checks.is_valid_baseline self.now.rig.pose.baseline
@@ -113,16 +117,17 @@ impl<'a> ReadableProblem<'a> {
 }
 
 impl<'a> CheckedProblem<'a> {
-    /// Tests rows 1 to 9, row 1 without the room.
+    /// The problem, checked. Refuses: rows 1 to 9 in the order of their numbers, each over all
+    /// points before the next.
     #[tactic(auto, using(crate::proofs::Passed::refused_first))]
     pub fn new(problem: &'a Problem<'a>) -> Result<CheckedProblem<'a>, Refusal>
-        ensures { result ≡ result_and (Checks.check_problem problem.now)
-            (Ok problem.now) }
+        ensures { result ≡ result_and (Checks.check_problem problem.now) (Ok problem.now) }
     {
         Self::of(ReadableProblem::new(problem)?)
     }
 
-    /// Tests rows 4 to 9, in their order.
+    /// A readable problem, checked. Refuses: rows 4 to 9 in the order of their numbers, each over
+    /// all points before the next.
     #[tactic(auto, using(crate::proofs::Passed::fitting_check))]
     pub fn of(readable: ReadableProblem<'a>) -> Result<CheckedProblem<'a>, Refusal>
         ensures { result ≡ result_and (Checks.check_problem readable.entry) (Ok readable.entry) }
@@ -139,7 +144,7 @@ impl<'a> CheckedProblem<'a> {
         self.readable.fitting()
     }
 
-    /// The problem's damping
+    /// The problem's damping λ, finite and not below 0
     pub fn damping(&self) -> ValidDamping
         ensures { result ≡ self.now.damping }
     {
@@ -147,11 +152,11 @@ impl<'a> CheckedProblem<'a> {
     }
 }
 
-// Whether a length is n times a number, by no product that could wrap
+// Whether a length is each · n, by no product that could wrap
 #[tactic(auto, using(crate::proofs::Parts::multiple))]
 fn belongs(length: usize, each: usize, n: usize) -> bool
     requires { 0 < each }
-    ensures { result ≡ (length == (each * n)) }
+    ensures { result ≡ (length == each * n) }
 {
     length / each == n && length % each == 0
 }
@@ -173,11 +178,12 @@ fn check_values(fitting: &FittingProblem) -> Result<(), Refusal>
     check_both_views(fitting)
 }
 
-// Row 4
-#[tactic(auto, using(refusal::proofs::Scans::leaves, refusal::proofs::Scans::goes_on, refusal::proofs::Scans::ends))]
+// Row 4, over all points
+#[tactic(auto, using(crate::proofs::Parts::scans))]
 fn check_inverse_standard_deviations(fitting: &FittingProblem) -> Result<(), Refusal>
-    ensures { result ≡ FirstRefusal.first_refusal_from (Checks.check_inverse_standard_deviation fitting.now.inverse_standard_deviations) 0
-        (Problems.count fitting.now) }
+    ensures { let p = fitting.now in
+        let check = Checks.check_inverse_standard_deviation p.inverse_standard_deviations in
+        result ≡ first_refusal_from check 0 (Problems.count p) }
 {
     let problem = fitting.problem;
     for (i, x) in problem.inverse_standard_deviations.iter().enumerate() {
@@ -196,11 +202,11 @@ fn is_valid_baseline(baseline: f64) -> bool
     numerics::is_finite(baseline) && !(baseline <= numerics::RELATIVE_TOLERANCE)
 }
 
-// Row 6
-#[tactic(auto, using(refusal::proofs::Scans::leaves, refusal::proofs::Scans::goes_on, refusal::proofs::Scans::ends))]
+// Row 6, over all points
+#[tactic(auto, using(crate::proofs::Parts::scans))]
 fn check_points(fitting: &FittingProblem) -> Result<(), Refusal>
-    ensures { result ≡ FirstRefusal.first_refusal_from (Checks.check_point fitting.now.points) 0
-        (Problems.count fitting.now) }
+    ensures { let p = fitting.now in
+        result ≡ first_refusal_from (Checks.check_point p.points) 0 (Problems.count p) }
 {
     for index in 0..fitting.count() {
         let point = ProblemPoint { fitting, index };
@@ -211,7 +217,7 @@ fn check_points(fitting: &FittingProblem) -> Result<(), Refusal>
     Ok(())
 }
 
-// Rows 8 and 9
+// Row 8 in view 1, row 8 in view 2, then row 9
 #[tactic(auto, unfolding(crate::specs::Checks::check_both_views))]
 fn check_both_views(fitting: &FittingProblem) -> Result<(), Refusal>
     ensures { result ≡ Checks.check_both_views fitting.now }
@@ -221,11 +227,11 @@ fn check_both_views(fitting: &FittingProblem) -> Result<(), Refusal>
     check_projections(fitting)
 }
 
-// Row 8 for one view
-#[tactic(auto, using(refusal::proofs::Scans::leaves, refusal::proofs::Scans::goes_on, refusal::proofs::Scans::ends))]
+// Row 8, over all points in one view
+#[tactic(auto, using(crate::proofs::Parts::scans))]
 fn check_view(fitting: &FittingProblem, view: View) -> Result<(), Refusal>
-    ensures { result ≡ FirstRefusal.first_refusal_from (Checks.check_observation fitting.now view) 0
-        (Problems.count fitting.now) }
+    ensures { let p = fitting.now in
+        result ≡ first_refusal_from (Checks.check_observation p view) 0 (Problems.count p) }
 {
     for index in 0..fitting.count() {
         let point = ProblemPoint { fitting, index };
@@ -236,11 +242,11 @@ fn check_view(fitting: &FittingProblem, view: View) -> Result<(), Refusal>
     Ok(())
 }
 
-// Row 9: both loops are left at the first view that does not project.
-#[tactic(auto, using(refusal::proofs::Scans::leaves, refusal::proofs::Scans::goes_on, refusal::proofs::Scans::ends))]
+// Row 9, point by point in both views: the loops are left at the first projection that fails.
+#[tactic(auto, using(crate::proofs::Parts::scans))]
 fn check_projections(fitting: &FittingProblem) -> Result<(), Refusal>
-    ensures { result ≡ FirstRefusal.first_refusal_from (Checks.check_projection fitting.now) 0
-        (Problems.count fitting.now) }
+    ensures { let p = fitting.now in
+        result ≡ first_refusal_from (Checks.check_projection p) 0 (Problems.count p) }
 {
     let mut checked = Ok(());
     'points: for index in 0..fitting.count() {

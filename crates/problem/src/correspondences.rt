@@ -1,8 +1,8 @@
 // SPDX-FileCopyrightText: 2026 Pierre Moulon and OpenMVG Rust contributors
 // SPDX-License-Identifier: MIT OR Apache-2.0
 
-//! The problem that a whole step is lent, and one point of it with what each view saw: the inputs of
-//! `refine_impl` in kernel/two_view/optimizer.rs, and `Correspondence` of residual.rs.
+//! The problem that a whole step is lent, and one point of it with what each view saw: the inputs
+//! of `refine_impl` in kernel/two_view/optimizer.rs, and `Correspondence` of residual.rs.
 
 ghost use Rattle.std.specs.Prelude.{◌≡◌, ◌<◌};
 ghost use Rattle.problem.specs.Problem as Problems;
