@@ -1,7 +1,7 @@
 use Rattle.std.proofs.Common.{◌≡◌, ap, ◌∙◌, arith}
 use Rattle.schur.specs.declared.point_step.PointStep.{PointStep}
 use Rattle.optimizer.specs.PointSteps.{step_at}
-use Rattle.optimizer.proofs.Passes.{room_next, squared_next, norm_next}
+use Rattle.optimizer.proofs.Passes.{filled_next, squared_next, norm_next}
 use Rattle.optimizer.proofs.PointStepsLaws.{moved_is}
 use Rattle.optimizer.proofs.point_steps.write_steps.Goals as goal
 
@@ -16,7 +16,7 @@ loop-index-preserved c =
     let step = ap (λ (m : PointStep). m.step) e in
     record {
       within = c.loop-index.invariant.within;
-      filled = room_next _ _ _ _ _ _ c.loop-index.invariant.filled (c.copy_from_slice.ensures.after ∙ step);
+      filled = filled_next _ _ _ _ _ _ c.loop-index.invariant.filled (c.copy_from_slice.ensures.after ∙ step);
       squares = squared_next _ _ _ _ _ _ c.loop-index.invariant.squares step c.squared_norm-squared.ensures;
       norms = norm_next _ _ _ _ _ c.loop-index.invariant.norms e;
     }
