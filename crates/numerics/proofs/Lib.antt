@@ -11,7 +11,6 @@ pub mod Finite
 pub mod Fill
 pub mod FromFn
 mod Products
-mod Picks
 mod ExtremaLaws
 pub mod Laws
 pub mod Scaled

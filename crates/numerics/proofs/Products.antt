@@ -3,9 +3,10 @@ use Rattle.std.proofs.Common.{◌≡◌, ℕ, zero, suc, ◌+◌, List, refl}
 use native.Mathlib.Numerals.{add-one}
 use lib.Ieee.{Float}
 use Rattle.numerics.specs.Binary64.{◌⊕◌, ◌⊗◌, neg_zero}
-use Rattle.numerics.specs.Vectors.{◌!◌, sum_from, tabulate, dot}
+use Rattle.std.specs.Prelude.{fold}
+use Rattle.numerics.specs.Vectors.{◌!◌, tabulate, dot}
 
-sum_snoc : (n : ℕ) (f : ℕ → Float) (s : Float) → sum_from s (tabulate n f) ⊕ f n ≡ sum_from s (tabulate (suc n) f)
+sum_snoc : (n : ℕ) (f : ℕ → Float) (s : Float) → fold ◌⊕◌ s (tabulate n f) ⊕ f n ≡ fold ◌⊕◌ s (tabulate (suc n) f)
 sum_snoc zero f s = refl
 sum_snoc (suc n) f s = sum_snoc n (λ i. f (suc i)) (s ⊕ f 0)
 

@@ -17,7 +17,7 @@ use Rattle.std.specs.Prelude.{fold}
 use Rattle.std.proofs.lemmas.Bool.{false_from_ne_true}
 use Rattle.std.proofs.lemmas.Float.{le_right, le_of_lt, lt_irrefl, lt_of_le_of_lt, lt_of_lt_of_le}
 use Rattle.numerics.specs.Binary64.{◌⊗◌, zero as zero·, relative_tolerance}
-use Rattle.std.specs.Float.{is_sign_negative}
+use Rattle.std.specs.Float.{is_sign_negative, float_with_sign}
 use Rattle.numerics.specs.Classify.{is_nonnegative, abs}
 use Rattle.numerics.specs.Vectors.{all_finite}
 use Rattle.numerics.specs.Extrema.{max, fold_max}
@@ -61,7 +61,7 @@ module _ (f : Format) (m : ℕ) (e : ℤ) where
 
   -- the absolute value may be taken before or after
   abs_scaled : (x : Float) → abs (scaled x) ≡ scaled (abs x)
-  unfolding abs
+  unfolding float_with_sign
   abs_scaled x = abs_mul f (fin false (suc m) e) x
 
   -- that of the larger of two is below z where those of both are

@@ -1,10 +1,11 @@
 -- Bit patterns: a NaN's, and the sign's bit. Assumes nothing.
 use mathlib.Core.Path.{◌≡◌, refl, sym, ◌∙◌}
-use mathlib.Core.Bool.{true, false≢true}
+use mathlib.Core.Bool.{true}
 use Prim.Native.Nat.{ℕ, ◌*◌, ◌%◌, ◌<◌}
 use borrow.Author.Tests.{lt-ltb}
-use lib.Ieee.{Float, nan, inf, fin, Format, binary64, is_nan, hid, ones, top, of_bits, to_bits}
+use lib.Ieee.{Float, nan, Format, binary64, is_nan, hid, ones, top, of_bits, to_bits}
 use lib.Ieee.Bits.{nan_bits_is, nan_bits_above}
+use Rattle.std.proofs.Common.{rules}
 
 -- the NaN by its pattern, and its pattern
 pub nan_of_pattern : of_bits binary64 0x7ff8_0000_0000_0000 ≡ nan
@@ -17,9 +18,7 @@ nan_pattern = refl
 
 pub nan_of_is_nan : (x : Float) → is_nan x ≡ true → x ≡ nan
 unfolding is_nan
-nan_of_is_nan nan h = refl
-nan_of_is_nan (inf s) h = absurd (false≢true h)
-nan_of_is_nan (fin s m e) h = absurd (false≢true h)
+nan_of_is_nan x h = search rules
 
 -- a pattern whose rest, below the sign's bit, lies above an infinity's is a NaN's, and no other is
 pub nan_of_bits : (f : Format) (b : ℕ) → ones f * hid f < b % top f → of_bits f b ≡ nan

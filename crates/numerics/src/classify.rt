@@ -1,10 +1,12 @@
-// The absolute value, the test for a finite value, and the reciprocal.
+//! The absolute value, the reciprocal, and the tests for a finite value and for a finite one above
+//! 0.
+
 ghost use Rattle.std.specs.Prelude.{◌≡◌};
 ghost use Rattle.std.specs.Float.{float_is_finite};
 ghost use Rattle.numerics.specs.Binary64 as Binary64;
 ghost use Rattle.numerics.specs.Classify as Classify;
 
-/// `f64::abs`: the sign is cleared, of a zero too.
+/// |x|, `f64::abs`: the sign is cleared, of a zero too, and a NaN stays.
 #[tactic(auto, using(crate::proofs::AbsLaws::abs_above, crate::proofs::AbsLaws::abs_rest))]
 pub fn abs(x: f64) -> f64
     ensures { result ≡ Classify.abs x }
@@ -14,21 +16,21 @@ pub fn abs(x: f64) -> f64
     if 0.0 < x { x } else { 0.0 - x }
 }
 
-/// `f64::is_finite`.
+/// Whether x is neither a NaN nor an infinity, `f64::is_finite`.
 pub fn is_finite(x: f64) -> bool
     ensures { result ≡ float_is_finite x }
 {
     x.is_finite()
 }
 
-/// Whether x is finite and above 0.
+/// Whether 0 < x < ∞.
 pub fn is_positive_finite(x: f64) -> bool
     ensures { result ≡ Classify.is_positive_finite x }
 {
     is_finite(x) & (0.0 < x)
 }
 
-/// `f64::recip`: 1 divided by x.
+/// 1 ÷ x, `f64::recip`.
 pub fn recip(x: f64) -> f64
     ensures { result ≡ Binary64.recip x }
 {

@@ -1,10 +1,12 @@
-//! `f64::max` and `f64::min`, with a rule for unlike zeros, and the largest of a list.
+//! `f64::max` and `f64::min`, with a rule for unlike zeros, and the largest of a list
+//! (docs/SPECIFICATION.md, "Numbers").
 
 ghost use Rattle.std.specs.Prelude.{◌≡◌};
 ghost use Rattle.numerics.specs.Extrema as Extrema;
 
-/// The larger of the two, as `f64::max`. A NaN is passed over; of unlike zeros it is +0.
-#[tactic(auto, unfolding(crate::specs::Extrema::max))]
+/// The larger of x and y, `f64::max`. A NaN is passed over where the other is a number. Of +0 and
+/// −0 it is +0, in either order, which the Rust leaves open.
+#[tactic(auto, using(crate::proofs::ExtremaLaws::maximum_is), unfolding(crate::specs::Extrema::max))]
 pub fn max(x: f64, y: f64) -> f64
     ensures result { result ≡ Extrema.max x y }
     ensures standard { Extrema.IsMaximum x y result }
@@ -16,8 +18,9 @@ pub fn max(x: f64, y: f64) -> f64
     }
 }
 
-/// The smaller of the two, as `f64::min`. A NaN is passed over; of unlike zeros it is −0.
-#[tactic(auto, unfolding(crate::specs::Extrema::min))]
+/// The smaller of x and y, `f64::min`. A NaN is passed over where the other is a number. Of +0 and
+/// −0 it is −0, in either order, which the Rust leaves open.
+#[tactic(auto, using(crate::proofs::ExtremaLaws::minimum_is), unfolding(crate::specs::Extrema::min))]
 pub fn min(x: f64, y: f64) -> f64
     ensures result { result ≡ Extrema.min x y }
     ensures standard { Extrema.IsMinimum x y result }
@@ -29,15 +32,16 @@ pub fn min(x: f64, y: f64) -> f64
     }
 }
 
-/// `max` by one comparison, for a `low` that is a number with the sign clear: a NaN in x is passed
-/// over, and of unlike zeros it is +0.
+/// x where x > low, and low elsewhere: one comparison. Where low is a number with the sign clear
+/// this is `max` of the two: a NaN in x is passed over, and of unlike zeros it is +0.
 pub fn max_nonnegative(low: f64, x: f64) -> f64
-    ensures { Extrema.MaxNonnegative low x result }
+    ensures { Extrema.IsMaxNonnegative low x result }
 {
     if low < x { x } else { low }
 }
 
-/// The largest of some numbers and +0. A NaN is passed over.
+/// The largest of N numbers and +0, `.fold(0.0, f64::max)`: never below +0 and never NaN, since a
+/// NaN is passed over.
 pub fn fold_max<const N: usize>(xs: [f64; N]) -> f64
     ensures { result ≡ Extrema.fold_max xs.entry }
 {

@@ -1,4 +1,5 @@
--- The rows, a refusal, what a call answers, and the first refusal of several.
+-- Refusals: their row numbers and rows, results one after the other, what stands beside a refusal,
+-- and the first refusal of several checks. docs/SPECIFICATION.md, "Refusals".
 pub mod RowNumbers
 pub mod RefusalRow
 pub mod Chain

@@ -1,5 +1,5 @@
--- The refusals by their numbers: a row, a view and an index, the last two 0 where they have no
--- sense.
+-- A refusal by its numbers: row, view (1 or 2) and index (from 0). A part that says nothing of the
+-- row at hand is 0. docs/SPECIFICATION.md, "Refusals". Mirrors `Refusal::row` of src/lib.rt.
 use Rattle.std.specs.Prelude.{ℕ, List, ◌++◌, codes}
 use Rattle.std.specs.Fmt.{decimal}
 use Rattle.refusal.specs.RowNumbers as RowNumbers
@@ -7,20 +7,27 @@ use Rattle.refusal.specs.declared.Row.{Row}
 use Rattle.refusal.specs.declared.View.{View}
 use Rattle.refusal.specs.declared.View.TheVariants.{First, Second}
 use Rattle.refusal.specs.declared.Refusal.{Refusal}
-use Rattle.refusal.specs.declared.Refusal.TheVariants.{Lengths, TooManyPoints, Damping, InverseStandardDeviation, Baseline, Point, TooFewPoints, Observation, NotProjectable, PointNotProjectable, NotFactored, NotSolved, WeakCount, Full, RecordTooLong, RecordForm}
+use Rattle.refusal.specs.declared.Refusal.TheVariants.{Lengths, TooManyPoints, Damping}
+use Rattle.refusal.specs.declared.Refusal.TheVariants.{InverseStandardDeviation, Baseline, Point}
+use Rattle.refusal.specs.declared.Refusal.TheVariants.{TooFewPoints, Observation, NotProjectable}
+use Rattle.refusal.specs.declared.Refusal.TheVariants.{PointNotProjectable, NotFactored, NotSolved}
+use Rattle.refusal.specs.declared.Refusal.TheVariants.{WeakCount, Full, RecordTooLong, RecordForm}
 
+-- (number, view, index)
 abbrev pub row_at : ℕ → ℕ → ℕ → Row
 row_at number view index = record { number = number; view = view; index = index }
 
+-- (number, 0, 0)
 abbrev pub row_of : ℕ → Row
 row_of number = row_at number 0 0
 
--- ---- the kinds of refusal, by number, view and index
-
+-- the number of a view
 abbrev pub view_number : View → ℕ
 view_number First = 1
 view_number Second = 2
 
+-- the row of each refusal, in the order of the rows' numbers; row 9 is met with a view, and without
+-- one by a lone projection
 unfoldable pub row : Refusal → Row
 row Lengths = row_of RowNumbers.lengths
 row TooManyPoints = row_of RowNumbers.too_many_points
@@ -39,7 +46,7 @@ row Full = row_of RowNumbers.full
 row RecordTooLong = row_of RowNumbers.record_too_long
 row (RecordForm i) = row_at RowNumbers.record_form 0 i
 
--- `refused`, the number, the view and the index
+-- the text `refused NUMBER VIEW INDEX`, its numbers in decimal
 abbrev pub refusal_text : Refusal → List ℕ
 refusal_text r =
     let numbers = row r in

@@ -1,7 +1,7 @@
--- The numbers of document 01's rows, "Refusals by number".
+-- The row numbers of the refusals, each before its condition. docs/SPECIFICATION.md, "Refusals".
 use Rattle.std.specs.Prelude.{ℕ}
 
--- the lent lengths, the room's (3n) included, do not belong to one count n
+-- an array's length does not fit n, the count of points, or its layout
 abbrev pub lengths : ℕ
 lengths = 1
 
@@ -9,19 +9,19 @@ lengths = 1
 abbrev pub too_many_points : ℕ
 too_many_points = 2
 
--- damping not finite or below 0
+-- the damping is not finite, or below 0
 abbrev pub damping : ℕ
 damping = 3
 
--- inverse deviation not finite or ≤ 0
+-- an inverse standard deviation is not finite, or ≤ 0
 abbrev pub inverse_standard_deviation : ℕ
 inverse_standard_deviation = 4
 
--- baseline not finite or ≤ 64ε
+-- the baseline is not finite, or ≤ 64ε
 abbrev pub baseline : ℕ
 baseline = 5
 
--- point coordinate not finite
+-- a point's coordinate is not finite
 abbrev pub point : ℕ
 point = 6
 
@@ -29,7 +29,7 @@ point = 6
 abbrev pub too_few_points : ℕ
 too_few_points = 7
 
--- observation not finite
+-- an observation is not finite
 abbrev pub observation : ℕ
 observation = 8
 
@@ -37,7 +37,7 @@ observation = 8
 abbrev pub projection : ℕ
 projection = 9
 
--- system not valid; of a lone factor or point step: the block does not factor
+-- the reduced system is not valid; of a call on one block, the block does not factor
 abbrev pub not_factored : ℕ
 not_factored = 10
 
@@ -45,7 +45,7 @@ not_factored = 10
 abbrev pub not_solved : ℕ
 not_solved = 11
 
--- the system's weak count is above its block count
+-- `weak_point_count` is above `block_count`
 abbrev pub weak_count : ℕ
 weak_count = 12
 
@@ -57,6 +57,6 @@ full = 13
 abbrev pub record_too_long : ℕ
 record_too_long = 14
 
--- the record is out of form
+-- a field of the record is broken
 abbrev pub record_form : ℕ
 record_form = 15

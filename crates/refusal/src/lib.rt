@@ -1,6 +1,6 @@
-//! What a call answers where it gives no result: a `Refusal` says why, with the view and the index
-//! where these have a sense, and its `Row` says the same by numbers. `specs/Answer.antt` says what
-//! stands beside a refusal.
+//! Why a call gives no result: a `Refusal` says it, with the view and the index where these have a
+//! sense, and its `Row` says the same by numbers. `specs/Outcome.antt` says what stands beside a
+//! refusal. docs/SPECIFICATION.md, "Refusals".
 #![tactic(auto)]
 
 ghost use Rattle.std.specs.Prelude.{◌≡◌, Some};
@@ -9,46 +9,69 @@ ghost use Rattle.refusal.specs.RefusalRow as RefusalRow;
 use std::error::Error;
 use std::fmt;
 
-/// One of the two views of a point.
+/// One of the two views of a point: number 1 or 2.
 #[derive(Clone, Copy, Debug, PartialEq, Eq)]
 pub enum View {
+    /// The view of camera 1, whose frame is the world's.
     First,
+    /// The view of camera 2.
     Second,
 }
 
-/// Why a call gives no result. An index is that of a point, and counts from 0.
+/// Why a call gives no result, in the order of the rows of docs/SPECIFICATION.md, "Refusals". n is
+/// the count of points. An index is a point's, and counts from 0; it is 0 in a call that has a
+/// single point.
 #[derive(Clone, Copy, Debug, PartialEq, Eq)]
 pub enum Refusal {
+    /// Row 1: an array's length does not fit n, or its layout.
     Lengths,
+    /// Row 2: n is above 65,535.
     TooManyPoints,
+    /// Row 3: the damping is not finite, or below 0.
     Damping,
+    /// Row 4: the inverse standard deviation of a point is not finite, or at most 0.
     InverseStandardDeviation { index: u32 },
+    /// Row 5: the baseline is not finite, or at most 64ε.
     Baseline,
+    /// Row 6: a coordinate of a point is not finite.
     Point { index: u32 },
+    /// Row 7: n is below 5.
     TooFewPoints,
+    /// Row 8: an observation of a point is not finite, in the view that is named.
     Observation { view: View, index: u32 },
-    /// Of a point in one camera alone.
+    /// Row 9, view 0: `pixel_projection` gives none for a point in one camera alone.
     NotProjectable,
+    /// Row 9: `pixel_projection` gives none for a point in the view that is named.
     PointNotProjectable { view: View, index: u32 },
+    /// Row 10: the reduced system is not valid; of a call on one block, the block does not factor.
     NotFactored,
+    /// Row 11: the 5 by 5 solve gives none.
     NotSolved,
+    /// Row 12: the system's `weak_point_count` is above its `block_count`.
     WeakCount,
+    /// Row 13: the system has 65,535 blocks already.
     Full,
+    /// Row 14: the run record is longer than 34,559 bytes.
     RecordTooLong,
-    /// The broken field begins at the byte `start`.
+    /// Row 15: a field of the run record is broken. It begins at the byte `start`, which is the
+    /// row's index.
     RecordForm { start: u32 },
 }
 
-/// A refusal by its numbers: the row, the view and the index, the last two 0 where they have no
-/// sense.
+/// A refusal by its numbers: row, view and index. A part that says nothing of the row at hand is 0,
+/// and all are 0 where nothing is refused.
 #[derive(Clone, Copy, Debug, PartialEq, Eq)]
 pub struct Row {
+    /// The row's number, 1 to 15.
     pub number: u32,
+    /// 1 or 2.
     pub view: u32,
+    /// A point's index from 0; of row 15 the byte at which the broken field begins.
     pub index: u32,
 }
 
 impl View {
+    // 1 or 2
     fn number(self) -> u32
         ensures { result ≡ RefusalRow.view_number self }
     {
@@ -60,7 +83,7 @@ impl View {
 }
 
 impl Refusal {
-    /// The refusal by its numbers.
+    /// The refusal's row: its number, and its view and index, 0 where it has none.
     #[tactic(auto, unfolding(crate::specs::RefusalRow::row))]
     pub fn row(self) -> Row
         ensures { result ≡ RefusalRow.row self }
@@ -86,7 +109,7 @@ impl Refusal {
     }
 }
 
-/// Writes `refused`, the number, the view and the index.
+/// Writes `refused NUMBER VIEW INDEX`, the numbers in decimal.
 impl fmt::Display for Refusal {
     ghost output = { λ refusal. Some (RefusalRow.refusal_text refusal) };
 
@@ -99,7 +122,7 @@ impl fmt::Display for Refusal {
 impl Error for Refusal {}
 
 impl Row {
-    // The one place where a row is made
+    // The one place where a row is made: by number, view and index
     fn at(number: u32, view: u32, index: u32) -> Self
         ensures { result ≡ RefusalRow.row_at number view index }
     {

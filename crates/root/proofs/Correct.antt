@@ -3,15 +3,17 @@
 use mathlib.Core.Path.{◌≡◌, sym, ap, subst, ◌∙◌}
 use mathlib.Core.Bool.{Bool, true, false, not}
 use Prim.Native.Nat.{ℕ, suc, ◌+◌, ◌-◌, ◌*◌, ◌/◌, ◌^◌, ◌≤◌, ◌<◌, zero-le}
-use native.Mathlib.Nat.{le_trans, le_of_eq, lt_of_lt_of_le, lt_of_le_of_lt, mul_assoc, mul-mul-mul_comm, mul-le-mul, mul-le-mul_left, mul-le-mul_right, mul-lt-mul_of_pos_right, lt_of_mul-lt-mul_right, le_of_mul-le-mul_right, mul-pos, two-mul, add-mul, one-mul, mul-one, le-add_left, le_of_lt, le_refl, lt_irrefl, lt_trans, le_of_suc-le-suc, add_comm, add-le-add, add-lt-add_of_lt_of_le, pow-succ', sub-add_cancel}
+use native.Mathlib.Nat.{le_trans, le_of_eq, lt_of_lt_of_le, lt_of_le_of_lt, mul_assoc, mul-mul-mul_comm, mul-le-mul, mul-le-mul_left, mul-le-mul_right, mul-lt-mul_of_pos_right, lt_of_mul-lt-mul_right, le_of_mul-le-mul_right, mul-pos, two-mul, add-mul, one-mul, mul-one, le-add_left, le_of_lt, le_refl, lt_irrefl, lt_trans, le_of_suc-le-suc, add_comm, add-le-add, add-lt-add_of_lt_of_le, pow-zero, pow-suc, pow-succ', sub-add_cancel}
 use native.Mathlib.Omega.{arith}
 use lib.Dec.{T, leb, ltb, leb→le, nleb→lt, ltb→lt, lit<}
 use lib.Pow.{pow-add, pow_pos, pow_mono}
 use lib.Ieee.{Float, nan, inf, fin, binary64, low, size, fits, lt, of_bits, up, down}
+use lib.Ieee.Bits.{is_true}
 use lib.Ieee.Digits.{size-lt, size-le, size_reaches}
 use lib.Ieee.Exact.{HasValue}
 use lib.Ieee.Positive.{first_pos}
 use Rattle.numerics.specs.Binary64 as Binary64
+use Rattle.std.specs.Bool.{passes}
 use Rattle.std.specs.Float.{float_is_finite}
 use Rattle.numerics.specs.Classify.{is_nonnegative, magnitude}
 use Rattle.root.specs.Whole.{IsNearestRoot}
@@ -66,6 +68,9 @@ scaled t p some few lo hi =
         }
 
 -- ---- among the multiples of 2 ^ k and the finer values below them
+
+squared : (a : ℕ) → a ^ 2 ≡ a * a
+squared a = simp (pow-suc a 1, pow-suc a 0, pow-zero a, one-mul)
 
 square_of : (a c : ℕ) → (a * c) * (a * c) ≡ a * a * (c * c)
 square_of a c = mul-mul-mul_comm a c a c
@@ -126,7 +131,7 @@ module _ (d k r t j : ℕ) (low_d : 2 ^ 104 ≤ d) (low_r : 2 ^ 52 ≤ r) (near 
   above : r * K < t * 2 ^ j → 4 * (d * (K * K)) < (t * 2 ^ j + r * K) * (t * 2 ^ j + r * K)
   above l =
       lt_of_le_of_lt (le_of_eq (sym (mul_assoc 4 d (K * K))))
-      (lt_of_lt_of_le (mul-lt-mul_of_pos_right (let h = near.high in omega arith) (mul-pos (pow_pos k) (pow_pos k)))
+      (lt_of_lt_of_le (mul-lt-mul_of_pos_right (let h = near.below_upper_middle in omega arith) (mul-pos (pow_pos k) (pow_pos k)))
       (le_trans (le_of_eq (sym (middle r)))
       (square_le (le_trans (le_of_eq (add_comm (r * K) (suc r * K))) (add-le-add (next l) (le_refl (r * K)))))))
 
@@ -149,7 +154,7 @@ module _ (d k r t j : ℕ) (low_d : 2 ^ 104 ≤ d) (low_r : 2 ^ 52 ≤ r) (near 
         where
           short : (q : ℕ) → r ≡ suc q → 4 * (q * q) + 4 * q + 1 < 4 * d
           short q e =
-              let n : suc q * suc q < d + suc q = subst (λ (x : ℕ). x * x < d + x) e near.low in
+              let n : suc q * suc q < d + suc q = subst (λ (x : ℕ). x * x < d + x) e near.above_lower_middle in
               let s = rw add-one at (next_square q) in
               omega arith
 
@@ -200,17 +205,17 @@ module _ (x : Float) (n d k r : ℕ) (is : sqrt x ≡ nearest_root n) (counts : 
 
   correct : IsCorrectlyRounded x (sqrt x)
   correct = record {
-    held = rw is (root_fits n d k r e lo hi near small);
-    finite = value_finite (sqrt x) (r * 2 ^ k) (2 ^ low binary64) value;
-    signless = value_nonneg (sqrt x) (r * 2 ^ k) (2 ^ low binary64) value;
-    below = λ y fy oy l.
-        let h = grid y fy oy in
+    is_binary64 = is_true _ (rw is (root_fits n d k r e lo hi near small));
+    is_finite = is_true _ (value_finite (sqrt x) (r * 2 ^ k) (2 ^ low binary64) value);
+    has_sign_clear = is_true _ (value_nonneg (sqrt x) (r * 2 ^ k) (2 ^ low binary64) value);
+    lower_are_further = λ y fy oy l.
+        let h = grid y (passes _ fy) (passes _ oy) in
         let m = magnitude_of y h.sign (h.count * 2 ^ h.place) h.value in
-        rw (m, rounded, exact) (below d k r h.count h.place lo low_r near h.count_lt (rw (m, rounded) at l));
-    above = λ y fy oy l.
-        let h = grid y fy oy in
+        rw (squared, m, rounded, exact) (below d k r h.count h.place lo low_r near h.count_lt (rw (m, rounded) at l));
+    higher_are_further = λ y fy oy l.
+        let h = grid y (passes _ fy) (passes _ oy) in
         let m = magnitude_of y h.sign (h.count * 2 ^ h.place) h.value in
-        rw (m, rounded, exact) (above d k r h.count h.place lo low_r near h.count_lt (rw (rounded, m) at l));
+        rw (squared, m, rounded, exact) (above d k r h.count h.place lo low_r near h.count_lt (rw (rounded, m) at l));
   }
 
 -- The square root of every finite binary64 above zero is IEEE 754's.

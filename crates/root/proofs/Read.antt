@@ -12,6 +12,7 @@ use lib.Ieee.Order.{le_of_values}
 use Rattle.std.proofs.lemmas.Float.{le_trans, lt_of_lt_of_le}
 use lib.Ieee.Bits.{is_true, of_bits-to_bits, nan_bits_is}
 use Rattle.numerics.specs.Binary64 as Binary64
+use Rattle.std.specs.Bool.{passes}
 use Rattle.std.specs.Float.{float_is_finite}
 use Rattle.numerics.proofs.Monotone.{finite_not_nan}
 use Rattle.root.specs.Root.{nearest_root, sqrt, IsCorrectlyRounded}
@@ -73,8 +74,8 @@ correct x f l h = sqrt_correct x f (subst (λ (y : Float). T (float_is_finite y)
 no_nan_bits : (x : Float) → IsCorrectlyRounded x (sqrt x) → T (not (nan_bits binary64 (to_bits binary64 (sqrt x))))
 no_nan_bits x c =
     subst (λ (b : Bool). T (not b))
-    (sym (nan_bits_is binary64 (to_bits binary64 (sqrt x)) ∙ ap is_nan (of_bits-to_bits binary64 (sqrt x) c.held)))
-    (finite_not_nan (sqrt x) c.finite)
+    (sym (nan_bits_is binary64 (to_bits binary64 (sqrt x)) ∙ ap is_nan (of_bits-to_bits binary64 (sqrt x) (passes _ c.is_binary64))))
+    (finite_not_nan (sqrt x) (passes _ c.is_finite))
 
 -- what the pattern's root is, read back
 module _ (x : Float) (f : T (fits binary64 x)) (above : lt Binary64.zero x ≡ true) (plain : to_bits binary64 x < 0x7ff0_0000_0000_0000) where
@@ -88,4 +89,4 @@ module _ (x : Float) (f : T (fits binary64 x)) (above : lt Binary64.zero x ≡ t
   no_nan r e = rw (bits r e) (no_nan_bits x rounded)
 
   pub root : (r : ℕ) → r ≡ to_bits binary64 (sqrt (of_bits binary64 (to_bits binary64 x))) → of_bits binary64 r ≡ sqrt x
-  root r e = ap (of_bits binary64) (bits r e) ∙ of_bits-to_bits binary64 (sqrt x) rounded.held
+  root r e = ap (of_bits binary64) (bits r e) ∙ of_bits-to_bits binary64 (sqrt x) (passes _ rounded.is_binary64)

@@ -8,7 +8,7 @@ use native.Mathlib.Numerals.{add-one}
 use native.Mathlib.Omega.{arith}
 use lib.Dec.{T, is_le, compare_is_eq, leb, leb→le, nleb→lt, eqb→eq, lit<}
 use lib.Ieee.{nearest}
-use Rattle.root.specs.Whole.{IsWholeRoot, IsNearestRoot}
+use Rattle.root.specs.Whole.{IsNearestRoot}
 use Rattle.root.specs.Root.{whole_root}
 
 ruleset sorted = (mul-add, add-mul, mul_comm, mul_assoc, mul_left_comm, add_assoc, add_comm, add_left_comm)
@@ -38,14 +38,19 @@ same_nearest n r s p q = go (leb r s) (leb→le r s) (nleb→lt r s)
         let m' : s * (s + 1) ≤ s * r = mul-le-mul_left s (omega arith) in
         let e : (s + 1) * r ≡ s * r + r = simp (add-mul, one-mul) in
         let e' : s * (s + 1) ≡ s * s + s = simp (mul-add, mul-one) in
-        let a = p.low in
-        let b = q.high in
+        let a = p.above_lower_middle in
+        let b = q.below_upper_middle in
         absurd (omega arith)
 
 pub nearest_unique : (n r s : ℕ) → IsNearestRoot n r → IsNearestRoot n s → r ≡ s
 nearest_unique n r s p q = le_antisymm (same_nearest n r s p q) (same_nearest n s r q p)
 
 -- ---- the definition, digit by digit
+
+-- r is ⌊√n⌋
+pub record IsWholeRoot (n r : ℕ) : Type 0 where
+  pub reached : r * r ≤ n
+  pub next : n < (r + 1) * (r + 1)
 
 pub twice_square : (q : ℕ) → 2 * q * (2 * q) ≡ 4 * (q * q)
 twice_square q = simp (mul_assoc, mul_left_comm) (sym (mul_assoc 2 2 (q * q)))
@@ -92,7 +97,7 @@ nearest_is n q c N C w =
         let a = w.reached in
         let b = w.next in
         let p : 1 < q + 1 = square_lt 1 (q + 1) (omega arith) in
-        record { low = omega arith; high = omega arith }
+        record { above_lower_middle = omega arith; below_upper_middle = omega arith }
     go Ordering.eq h k i =
         let m : 4 * n ≡ (2 * q + 1) * (2 * q + 1) = eq_of_mul-eq-mul_right c C (4 * n) ((2 * q + 1) * (2 * q + 1)) (sym scaled ∙ i tt) in
         let e = middle_square q in
@@ -102,7 +107,7 @@ nearest_is n q c N C w =
         let e = middle_square q in
         let f = rw add-one at (next_square q) in
         let b = rw add-one at w.next in
-        record { low = omega arith; high = omega arith }
+        record { above_lower_middle = omega arith; below_upper_middle = omega arith }
 
 -- ---- the nearest root of what lies between two squares
 pub nearest_low : (n r p : ℕ) → p * p ≤ n → IsNearestRoot n r → p ≤ r
@@ -116,7 +121,7 @@ nearest_low n r p h w = go (leb p r) (leb→le p r) (nleb→lt p r)
         let m' : suc r * p ≤ p * p = mul-le-mul_right p (g tt) in
         let e = mul-suc r r in
         let e' = suc-mul r p in
-        let b = w.high in
+        let b = w.below_upper_middle in
         absurd (omega arith)
 
 pub nearest_high : (n r p : ℕ) → n < p * p → IsNearestRoot n r → r ≤ p
@@ -129,5 +134,5 @@ nearest_high n r p h w = go (leb r p) (leb→le r p) (nleb→lt r p)
         let m' : p * suc p ≤ p * r = mul-le-mul_left p (g tt) in
         let e = suc-mul p r in
         let e' = mul-suc p p in
-        let b = w.low in
+        let b = w.above_lower_middle in
         absurd (omega arith)

@@ -3,7 +3,7 @@
 //! The digits of x are scaled to a d of 53 or 54 of them with an even power of two beside it; the
 //! root of d * 2 ^ 52 to the nearest whole number then has the 53 digits of the result. A
 //! polynomial from a table guesses it, and a test by its square accepts it or has it searched for:
-//! there is no division, and nothing to know of the table.
+//! there is no division, and nothing to know of the table. docs/SPECIFICATION.md, "Square root".
 #![tactic(auto)]
 
 mod table;
@@ -25,9 +25,9 @@ const INFINITY: u64 = 0x7ff0_0000_0000_0000;
 // 2 ^ 52: what the leading digit and the exponent's field count for
 const LEAD: u64 = 0x10_0000_0000_0000;
 
-/// `f64::sqrt`. For a finite value above zero it is the binary64 nearest to the exact root, by
-/// IEEE 754. A zero of either sign, +∞ and NaN are their own roots; what lies below zero has a NaN
-/// for one.
+/// √x, `f64::sqrt`. Where 0 < x < ∞ it is the binary64 nearest to the exact root, as IEEE 754 asks.
+/// A zero of either sign, +∞ and NaN are their own roots; what lies below zero gives NaN.
+/// docs/SPECIFICATION.md, "Square root".
 // Callers take many roots, and what is inlined here is long: so they share it.
 #[inline(never)]
 pub fn sqrt(x: f64) -> f64
@@ -96,8 +96,8 @@ fn radicand(m: u64, power: u64) -> u128
     d as u128 * LEAD as u128
 }
 
-// Both comparisons of `NearestRoot` in one: where root * root is not below n + root, the difference
-// wraps to more than any 2 * root.
+// Both comparisons of `IsNearestRoot` in one: where root * root is not below n + root, the
+// difference wraps to more than any 2 * root.
 fn is_nearest(n: u128, root: u64) -> bool
     requires { (0 < n) × (n < 2 ^ 106) }
     ensures nearest { IsTrue result → IsNearestRoot n root }

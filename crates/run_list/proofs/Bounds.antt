@@ -1,12 +1,12 @@
 -- The longest list: 4,057 bytes. Assumes nothing.
 use mathlib.Core.Path.{◌≡◌, refl, ap, ◌∙◌}
-use mathlib.Core.Bool.{Bool, true, false, cond}
+use mathlib.Core.Bool.{Bool, true, false}
 use mathlib.Core.List.{List, [], ◌∷◌, ◌++◌}
 use Prim.Native.Nat.{ℕ, zero, suc, ◌+◌, ◌*◌, ◌-◌, ◌/◌, ◌≤◌, ◌<◌}
 use native.Mathlib.Omega.{arith}
 use native.Mathlib.Nat.{zero-add}
 use borrow.Author.Tests.{ltb-true, ltb-false, lt-leb, le-leb}
-use lib.Dec.{eqb, ltb}
+use lib.Dec.{ltb}
 use lib.ListN.{length, take, drop, length-append}
 use lib.Seq.{take_at}
 use lib.Ieee.{Float, binary64, to_bits}
@@ -26,7 +26,10 @@ use Rattle.text.specs.Hex.{digits}
 use Rattle.run_record.specs.Fields.{point_fields}
 use Rattle.run_record.specs.Form as Form
 use Rattle.run_record.specs.Run.{run}
-use Rattle.text.specs.Text.{space, line_feed, digit, without_leading_zeros, decimal, with_text, PutsText}
+use Rattle.std.specs.Fmt.{decimal}
+use Rattle.std.proofs.lemmas.Fmt.{length-decimal-le}
+use Rattle.text.specs.Text.{space, line_feed, with_text, PutsText}
+use Rattle.text.proofs.Decimals.{decimal_length}
 use Rattle.problem.specs.Letters.{letter_of}
 use Rattle.run_list.specs.Lines.{bits_then, run_line, point_line, refused_line}
 use Rattle.run_list.specs.SumLine.{validity, verdict, sum_line}
@@ -37,46 +40,8 @@ use Rattle.text.proofs.Puts.{put_fits, put_length}
 
 -- ---- decimals
 
-shorter : (k : ℕ) (l : List ℕ) → length (without_leading_zeros k l) ≤ length l
-unfolding without_leading_zeros
-shorter zero l = omega arith
-shorter (suc k) [] = omega arith
-shorter (suc k) (d ∷ l) = by (eqb d 48) (shorter k l)
-  where
-    by : (b : Bool) → length (without_leading_zeros k l) ≤ length l → length (cond b (without_leading_zeros k l) (d ∷ l)) ≤ suc (length l)
-    by true h = omega arith
-    by false h = omega arith
-
-ten : (n : ℕ) → length (decimal n) ≤ 10
-unfolding decimal
-ten n = shorter 9 _
-
--- of a number below 1,000 three digits are left
-small : (n : ℕ) → n < 1000 → decimal n ≡ without_leading_zeros 2 (digit (n / 100) ∷ digit (n / 10) ∷ digit n ∷ [])
-unfolding decimal without_leading_zeros
-small n h =
-    let a : n / 1000000000 ≡ 0 = omega arith in
-    let b : n / 100000000 ≡ 0 = omega arith in
-    let c : n / 10000000 ≡ 0 = omega arith in
-    let d : n / 1000000 ≡ 0 = omega arith in
-    let e : n / 100000 ≡ 0 = omega arith in
-    let f : n / 10000 ≡ 0 = omega arith in
-    let g : n / 1000 ≡ 0 = omega arith in
-    rw (a, b, c, d, e, f, g) refl
-
 three : (n : ℕ) → n < 1000 → length (decimal n) ≤ 3
-three n h = rw (small n h) (shorter 2 (digit (n / 100) ∷ digit (n / 10) ∷ digit n ∷ []))
-
-two : (n : ℕ) → n < 100 → length (decimal n) ≤ 2
-unfolding without_leading_zeros
-two n h = let i : n / 100 ≡ 0 = omega arith in rw (small n (omega arith), i) (shorter 1 (digit (n / 10) ∷ digit n ∷ []))
-
-one : (n : ℕ) → n < 10 → length (decimal n) ≤ 1
-unfolding without_leading_zeros
-one n h =
-    let i : n / 100 ≡ 0 = omega arith in
-    let j : n / 10 ≡ 0 = omega arith in
-    rw (small n (omega arith), i, j) (shorter 0 (digit n ∷ []))
+three n h = length-decimal-le 3 n (omega arith) h (omega arith)
 
 -- ---- lines
 
@@ -114,8 +79,8 @@ points_length p (suc n) h =
         → length (point_lines p n ++ point_line n (letter_of (block_at p n) p.damping)) ≡ length (point_lines p n) + length (point_line n (letter_of (block_at p n) p.damping))
         → length (point_line n (letter_of (block_at p n) p.damping)) ≡ 5 + length (decimal n) → length (point_lines p n) ≤ 6 * n + (n - 10) + (n - 100)
         → length (point_lines p n ++ point_line n (letter_of (block_at p n) p.damping)) ≤ 6 * suc n + (suc n - 10) + (suc n - 100)
-    by true y e f a b c = let k = one n (ltb-true n 10 e) in omega arith
-    by false true e f a b c = let i = ltb-false n 10 e in let k = two n (ltb-true n 100 f) in omega arith
+    by true y e f a b c = let k = length-decimal-le 1 n (omega arith) (ltb-true n 10 e) (omega arith) in omega arith
+    by false true e f a b c = let i = ltb-false n 10 e in let k = length-decimal-le 2 n (omega arith) (ltb-true n 100 f) (omega arith) in omega arith
     by false false e f a b c = let i = ltb-false n 100 f in let k = three n (omega arith) in omega arith
 
 sum_length : (s : ReducedSystem) → s.weak_point_count < 1000 → length (sum_line s) ≤ 46
@@ -134,7 +99,7 @@ sum_length s h =
     let k = three s.weak_point_count h in
     omega arith
 
-refused_length : (refusal : Refusal) → length (refused_line refusal) ≤ 41
+refused_length : (refusal : Refusal) → length (refused_line refusal) ≤ 203
 unfolding refused_line
 refused_length refusal =
     let r = row refusal in
@@ -148,9 +113,9 @@ refused_length refusal =
     let d = length-append (x ++ n ++ (space ∷ [])) v in
     let e = length-append (x ++ n) (space ∷ []) in
     let f = length-append x n in
-    let k = ten r.number in
-    let l = ten r.view in
-    let m = ten r.index in
+    let k = decimal_length r.number in
+    let l = decimal_length r.view in
+    let m = decimal_length r.index in
     omega arith
 
 -- ---- the list

@@ -5,7 +5,8 @@ use Rattle.std.specs.Float.Ieee.{to_bits}
 use Rattle.refusal.specs.RefusalRow.{row}
 use Rattle.refusal.specs.declared.Refusal.{Refusal}
 use Rattle.text.specs.Hex.{digits}
-use Rattle.text.specs.Text.{space, line_feed, decimal}
+use Rattle.std.specs.Fmt.{decimal}
+use Rattle.text.specs.Text.{space, line_feed}
 
 -- a space, the bits of a number as 16 capital hex digits, and what follows them
 unfoldable pub bits_then : Float → List ℕ → List ℕ

@@ -2,7 +2,8 @@
 use Rattle.std.specs.Prelude.{ℕ, Bool, ◌&&◌, if◌then◌else◌, List, [], ◌∷◌, ◌++◌, ◌==◌}
 use Rattle.schur.specs.Reduced.{is_valid}
 use Rattle.schur.specs.declared.reduced_system.ReducedSystem.{ReducedSystem}
-use Rattle.text.specs.Text.{space, line_feed, decimal}
+use Rattle.std.specs.Fmt.{decimal}
+use Rattle.text.specs.Text.{space, line_feed}
 use Rattle.run_list.specs.Lines.{bits_then}
 
 -- `y` or `n`; then `u` if it is `y` and the weak count is 0, else `x`

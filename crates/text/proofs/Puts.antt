@@ -1,18 +1,16 @@
 -- Texts put into a buffer, one after the other. Assumes nothing.
 use mathlib.Core.Path.{◌≡◌, refl, sym, ap, ◌∙◌, subst}
-use mathlib.Core.Bool.{Bool, true, false, cond}
+use mathlib.Core.Bool.{Bool, true, false}
 use mathlib.Core.List.{List, [], ◌∷◌, ◌++◌, append_assoc}
 use Prim.Native.Nat.{ℕ, zero, suc, ◌+◌, ◌-◌, ◌≤◌, ◌<◌, min}
 use native.Mathlib.Nat.{add_assoc, add-zero}
-use native.Mathlib.Numerals.{one-add}
 use native.Mathlib.Omega.{arith}
 use borrow.Author.Tests.{leb-true, leb-false}
 use borrow.Rule.Slice.PartMut.{put_mid}
-use lib.Dec.{eqb, leb}
+use lib.Dec.{leb}
 use lib.ListN.{length, take, drop, length-append, length-take, length-drop}
 use lib.Seq.{take_all, take-nil, take-take, take_at, paste-zero, drop-append-add, drop-drop, length-take-le}
-use Rattle.std.specs.List.{prefix_len}
-use Rattle.text.specs.Text.{without_leading_zeros, with_text, text_that_fits, PutsText}
+use Rattle.text.specs.Text.{with_text, text_that_fits, PutsText}
 
 -- ---- one text
 
@@ -113,19 +111,6 @@ module _ (s t : List ℕ) (at : ℕ) (out : List ℕ) (middle : ℕ) (between : 
       by : (b : Bool) → leb at (length out) ≡ b → PutsText (s ++ t) at out next after
       by true e = inside (leb-true at (length out) e)
       by false e = behind (leb-false at (length out) e)
-
--- ---- without the zeros before a number
-
-pub zeros_passed : (k : ℕ) (l : List ℕ) → drop (prefix_len (λ d. eqb d 48) (take k l)) l ≡ without_leading_zeros k l
-unfolding without_leading_zeros
-zeros_passed zero l = refl
-zeros_passed (suc k) [] = refl
-zeros_passed (suc k) (d ∷ l) = by (eqb d 48) (zeros_passed k l)
-  where
-    by : (b : Bool) → drop (prefix_len (λ n. eqb n 48) (take k l)) l ≡ without_leading_zeros k l
-        → drop (cond b (1 + prefix_len (λ n. eqb n 48) (take k l)) 0) (d ∷ l) ≡ cond b (without_leading_zeros k l) (d ∷ l)
-    by true e = rw one-add e
-    by false e = refl
 
 -- the last digits of ten
 pub tail : (l : List ℕ) (i : ℕ) → length l ≡ 10 → take (10 - i) (drop i l) ≡ drop i l

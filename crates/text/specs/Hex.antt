@@ -1,11 +1,13 @@
--- A number of 64 bits as sixteen capital hexadecimal digits, in ASCII.
+-- A number of 64 bits as sixteen capital hexadecimal digits, in ASCII. docs/SPECIFICATION.md,
+-- "List".
 use Rattle.std.specs.Prelude.{ℕ, ◌+◌, ◌/◌, ◌%◌, ◌^◌, if◌then◌else◌, List, [], ◌∷◌, nat_lt}
 
--- the lowest digit of n: 0 to 9 are 48 to 57, and A to F are 65 to 70
+-- the last hexadecimal digit of n, where 48 is `0` and 55 + 10 is `A`
 unfoldable pub digit : ℕ → ℕ
 digit n = if nat_lt (n % 16) 10 then 48 + n % 16 else 55 + n % 16
 
--- the digits of n, highest first
+-- the last sixteen hexadecimal digits of n, first to last: digit k from the end is
+-- ⌊n / 16 ^ k⌋ mod 16
 abbrev pub digits : ℕ → List ℕ
 digits n =
     digit (n / 16 ^ 15)

@@ -1,3 +1,3 @@
--- Text in a lent buffer.
+-- Text in a lent buffer, and numbers as hexadecimal digits. docs/SPECIFICATION.md, "List".
 pub mod Text
 pub mod Hex

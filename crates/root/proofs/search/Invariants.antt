@@ -1,5 +1,5 @@
 -- From below the root it is reached by steps up, and from above by steps down: where the first
--- loop ends, one test of `NearestRoot` holds, and the second loop keeps it.
+-- loop ends, one test of `IsNearestRoot` holds, and the second loop keeps it.
 use Prim.Native.Nat.{◌+◌, ◌*◌, ◌^◌, ◌<◌, ◌≤◌, ◌-◌}
 use Rattle.root.proofs.search.Given as goal
 

@@ -1,17 +1,9 @@
-use mathlib.Core.Path.{◌≡◌, sym, subst}
-use mathlib.Core.Bool.{Bool, true, cond}
-use lib.Dec.{T}
-use lib.Ieee.{Float, binary64, fits}
-use Rattle.numerics.specs.Extrema.{MaxNonnegative, max_nonnegative}
-use Rattle.numerics.proofs.Laws.{larger_is}
+use mathlib.Core.Path.{refl}
+use Rattle.numerics.proofs.Laws.{max_nonnegative_is}
 use Rattle.numerics.proofs.extrema.max_nonnegative.Goals as goal
 
--- what `larger` gives, for values that the format holds
-meets : (low x : Float) → fits binary64 low ≡ true → fits binary64 x ≡ true → MaxNonnegative low x (max_nonnegative low x)
-meets low x p q = larger_is binary64 low x (subst T (sym p) tt) (subst T (sym q) tt)
-
 pub returns-then-low-x : goal.returns-then-low-x
-returns-then-low-x c = subst (λ (t : Bool). MaxNonnegative c.args.low c.args.x (cond t c.args.x c.args.low)) c.if-low-x.true (meets _ _ c.well_formed.0.1 c.well_formed.1.0.1)
+returns-then-low-x c = max_nonnegative_is _ _ _ c.well_formed.0.1 c.well_formed.1.0.1 (rw c.if-low-x.true refl)
 
 pub returns-else-low-x : goal.returns-else-low-x
-returns-else-low-x c = subst (λ (t : Bool). MaxNonnegative c.args.low c.args.x (cond t c.args.x c.args.low)) c.if-low-x.false (meets _ _ c.well_formed.0.1 c.well_formed.1.0.1)
+returns-else-low-x c = max_nonnegative_is _ _ _ c.well_formed.0.1 c.well_formed.1.0.1 (rw c.if-low-x.false refl)

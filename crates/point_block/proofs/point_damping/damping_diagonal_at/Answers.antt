@@ -9,4 +9,4 @@ unfolding largest_diagonal damping_diagonal_of
 returns c =
     let m = c.args.m in
     let clear = floor_clear (m ! 0 ∷ m ! 4 ∷ m ! 8 ∷ []) c.args.scale c.requires in
-    rw (c.max_nonnegative.ensures.second clear, c.max_nonnegative-2.ensures.second clear, c.max_nonnegative-3.ensures.second clear, c.requires)
+    rw (c.max_nonnegative.ensures.low_second clear, c.max_nonnegative-2.ensures.low_second clear, c.max_nonnegative-3.ensures.low_second clear, c.requires)

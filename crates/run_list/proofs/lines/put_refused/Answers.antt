@@ -1,6 +1,7 @@
 use mathlib.Core.Path.{refl}
 use mathlib.Core.List.{[], ◌∷◌}
-use Rattle.text.specs.Text.{space, line_feed, decimal}
+use Rattle.std.specs.Fmt.{decimal}
+use Rattle.text.specs.Text.{space, line_feed}
 use Rattle.text.proofs.Wrote.{wrote_same, wrote_then}
 use Rattle.run_list.specs.Lines.{refused_line}
 use Rattle.run_list.proofs.lines.put_refused.Goals as goal
