@@ -9,7 +9,7 @@ use native.Mathlib.Nat.{add-zero, add-suc, suc-add, zero-add}
 use native.Mathlib.Numerals.{add-one}
 use native.Mathlib.Omega.{arith}
 use borrow.Author.Tests.{lt-ltb}
-use lib.Dec.{T, leb, ltb, le→leb}
+use lib.Dec.{leb, ltb, le→leb}
 use lib.Ieee.{Float, is_nan}
 use lib.Ieee.Bits.{is_true, is_false}
 use mathlib.Core.Logic.{◌⊎◌, inl, inr}
@@ -100,7 +100,7 @@ module _ (p : Problem) (ok : check_problem p ≡ Ok tt) where
   good = (passed p ok).damping
 
   few : count p ≤ max_blocks
-  few = (passed p ok).fits.3
+  few = (passed p ok).fits.most
 
   made_is : (i : ℕ) → i < count p → linearization_of (inputs p i) ≡ block_at p i
   made_is i h = ap block_or_zeros (block_made p ok i h)

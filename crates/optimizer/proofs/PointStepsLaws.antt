@@ -4,9 +4,7 @@ use mathlib.Core.Path.{◌≡◌, refl, sym, ap, ◌∙◌}
 use mathlib.Core.Bool.{true, true≢false}
 use mathlib.Core.List.{List}
 use Prim.Native.Nat.{ℕ, ◌<◌}
-use lib.Dec.{T}
 use lib.Ieee.{Float}
-use lib.Ieee.Bits.{is_true}
 use Rattle.std.specs.Prelude.{Result, Ok, Err, is_ok}
 use Rattle.refusal.specs.declared.Refusal.{Refusal}
 use Rattle.point_block.specs.Damping.{is_valid_damping}
@@ -16,6 +14,7 @@ use Rattle.point_block.proofs.Laws.{factors_with_rcond, factor_is}
 use Rattle.linearization.specs.Linearize.{block_of, point_terms}
 use Rattle.linearization.specs.declared.terms.PointTerms.{PointTerms}
 use Rattle.linearization.specs.declared.views.Correspondence.{Correspondence}
+use Rattle.linearization.specs.declared.views.Rig.{Rig}
 use Rattle.linearization.specs.declared.linearize.LocalLinearization.{LocalLinearization}
 use Rattle.schur.specs.Reduced.{is_valid, finish_damping, predicted_reduction}
 use Rattle.schur.specs.PointStep.{step_by_inverse, damped_step, point_step}
@@ -51,9 +50,10 @@ module _ (p : Problem) (ok : check_problem p ≡ Ok tt) where
 
   -- the same of terms that are worked out as the pass over the points does
   pub moved_is : is_valid (reduced_system p) ≡ true → (s : List Float) (i : ℕ) → i < count p
-      → (q : Problem) (c : Correspondence) (t : PointTerms) (d : Float) (r : Result PointStep Refusal) → q ≡ p → c ≡ correspondence_at q i → t ≡ point_terms (block_of q.rig c) → d ≡ p.damping → r ≡ damped_step t d s
+      → (q : Problem) (c : Correspondence) (rig : Rig) (t : PointTerms) (d : Float) (r : Result PointStep Refusal)
+      → q ≡ p → c ≡ correspondence_at q i → rig ≡ q.rig → t ≡ point_terms (block_of rig c) → d ≡ p.damping → r ≡ damped_step t d s
       → r ≡ Ok (step_at p s i)
-  moved_is valid s i l q c t d r e f g h k = rw (k, g, h, f, e) (step_given valid i l s)
+  moved_is valid s i l q c rig t d r e f j g h k = rw (k, g, h, j, f, e) (step_given valid i l s)
 
   pub none_refused : NoneRefused p
   unfolding finish_damping predicted_reduction point_step reduced_system
