@@ -1,9 +1,6 @@
 -- The cost and the squared residual of every made block, and of the block that is +0 everywhere,
 -- are numbers not below zero. Assumes nothing.
-use mathlib.Core.Path.{◌≡◌, refl}
-use mathlib.Core.Bool.{Bool, true, false, not, ◌&&◌}
-use mathlib.Core.List.{List}
-use lib.Dec.{T}
+use Rattle.std.proofs.Common.{◌≡◌, refl, not, ◌&&◌, T, List}
 use lib.Ieee.{Float, binary64, lt, le}
 use lib.Ieee.Bits.{is_true}
 use lib.Ieee.Fits.{and_l, and_r}
@@ -21,7 +18,7 @@ use Rattle.refusal.specs.FirstRefusal.{CheckResult}
 use Rattle.projection.specs.CameraFrame.{rotate}
 use Rattle.projection.specs.PixelProjection.{all_finite, pixel_projection}
 use Rattle.projection.specs.declared.Projection.{Projection}
-use Rattle.projection.proofs.Laws.{figures_finite}
+use Rattle.projection.proofs.Laws.{residual_finite, figures_finite}
 use Rattle.linearization.specs.declared.linearize.LocalLinearization.{LocalLinearization}
 use Rattle.linearization.specs.declared.views.RelativePose.{RelativePose}
 use Rattle.linearization.specs.declared.views.Rig.{Rig}
@@ -44,15 +41,9 @@ deviation w h =
     let number = nonneg_not_nan zero (nonneg_zero binary64) in
     (finite, lt_of_not-le w zero (finite_not_nan w finite) number above)
 
-first_two : (a b c d e f g h : Bool) → T (a && b && c && d && e && f && g && h) → T a × T b
-first_two true true c d e f g h t = (tt, tt)
-first_two true false c d e f g h t = absurd t
-first_two false b c d e f g h t = absurd t
-
 norm_nonneg : (p : Projection) → T (all_finite p) → T (is_nonnegative (norm p.residual))
-unfolding all_finite
 norm_nonneg p h =
-    let k = first_two (float_is_finite (p.residual ! 0)) (float_is_finite (p.residual ! 1)) _ _ _ _ _ _ h in
+    let k = residual_finite p h in
     nonneg_sum_squares (p.residual ! 0) (p.residual ! 1) k.0 k.1
 
 cost_nonneg : (m w : Float) → T (is_nonnegative m) → T (is_valid_inverse_standard_deviation w)
