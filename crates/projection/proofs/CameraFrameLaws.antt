@@ -1,14 +1,9 @@
 -- A non-finite rotation or translation makes every point of the second view one that is not
 -- projectable (`not_projectable`). Assumes nothing.
-use mathlib.Core.Path.{◌≡◌, refl, sym, ◌∙◌}
-use mathlib.Core.Bool.{Bool, true, false, true≢false}
-use mathlib.Core.List.{List}
-use Prim.Native.Nat.{ℕ, zero, suc, ◌<◌}
-use native.Mathlib.Omega.{arith}
-use lib.Dec.{T}
-use lib.Ieee.{Float, binary64}
+use Rattle.std.proofs.Common.{◌≡◌, refl, sym, ◌∙◌, Bool, true, false, true≢false, T, List, ℕ, ◌<◌, below_none, below_more}
+use Rattle.std.specs.Prelude.{Float, Err}
+use lib.Ieee.{binary64}
 use lib.Ieee.Bits.{is_true}
-use Rattle.std.specs.Prelude.{Err}
 use Rattle.refusal.specs.declared.Refusal.TheVariants.{NotProjectable}
 use Rattle.numerics.specs.Binary64.{◌⊕◌, ◌⊗◌}
 use Rattle.std.specs.Float.{float_is_finite}
@@ -43,35 +38,28 @@ module _ (rotation translation point : List Float) where
   moved = camera_point (rotate rotation point) translation
 
   module _ (h : T (is_in_front moved)) where
-    row₀ : FiniteRow (rotation ! 0) (rotation ! 1) (rotation ! 2) (translation ! 0)
+    rows : FiniteRow (rotation ! 0) (rotation ! 1) (rotation ! 2) (translation ! 0)
+        × FiniteRow (rotation ! 3) (rotation ! 4) (rotation ! 5) (translation ! 1)
+        × FiniteRow (rotation ! 6) (rotation ! 7) (rotation ! 8) (translation ! 2)
     unfolding rotate camera_point
-    row₀ = finite_row _ _ _ _ (point ! 0) (point ! 1) (point ! 2) (front_finite moved h).0
-
-    row₁ : FiniteRow (rotation ! 3) (rotation ! 4) (rotation ! 5) (translation ! 1)
-    unfolding rotate camera_point
-    row₁ = finite_row _ _ _ _ (point ! 0) (point ! 1) (point ! 2) (front_finite moved h).1
-
-    row₂ : FiniteRow (rotation ! 6) (rotation ! 7) (rotation ! 8) (translation ! 2)
-    unfolding rotate camera_point
-    row₂ = finite_row _ _ _ _ (point ! 0) (point ! 1) (point ! 2) (front_finite moved h).2
+    rows =
+        let f = front_finite moved h in (
+          finite_row _ _ _ _ (point ! 0) (point ! 1) (point ! 2) f.0,
+          finite_row _ _ _ _ (point ! 0) (point ! 1) (point ! 2) f.1,
+          finite_row _ _ _ _ (point ! 0) (point ! 1) (point ! 2) f.2,
+        )
 
     rotation_finite : (i : ℕ) → i < 9 → T (float_is_finite (rotation ! i))
-    rotation_finite zero l = row₀.first
-    rotation_finite (suc zero) l = row₀.second
-    rotation_finite (suc (suc zero)) l = row₀.third
-    rotation_finite (suc (suc (suc zero))) l = row₁.first
-    rotation_finite (suc (suc (suc (suc zero)))) l = row₁.second
-    rotation_finite (suc (suc (suc (suc (suc zero))))) l = row₁.third
-    rotation_finite (suc (suc (suc (suc (suc (suc zero)))))) l = row₂.first
-    rotation_finite (suc (suc (suc (suc (suc (suc (suc zero))))))) l = row₂.second
-    rotation_finite (suc (suc (suc (suc (suc (suc (suc (suc zero)))))))) l = row₂.third
-    rotation_finite (suc (suc (suc (suc (suc (suc (suc (suc (suc i))))))))) l = absurd (omega arith)
+    rotation_finite =
+        let P : ℕ → Type 0 = λ i. T (float_is_finite (rotation ! i)) in
+        let three = below_more P 2 (below_more P 1 (below_more P 0 (below_none P) rows.0.first) rows.0.second) rows.0.third in
+        let six = below_more P 5 (below_more P 4 (below_more P 3 three rows.1.first) rows.1.second) rows.1.third in
+        below_more P 8 (below_more P 7 (below_more P 6 six rows.2.first) rows.2.second) rows.2.third
 
     translation_finite : (i : ℕ) → i < 3 → T (float_is_finite (translation ! i))
-    translation_finite zero l = row₀.moved
-    translation_finite (suc zero) l = row₁.moved
-    translation_finite (suc (suc zero)) l = row₂.moved
-    translation_finite (suc (suc (suc i))) l = absurd (omega arith)
+    translation_finite =
+        let P : ℕ → Type 0 = λ i. T (float_is_finite (translation ! i)) in
+        below_more P 2 (below_more P 1 (below_more P 0 (below_none P) rows.0.moved) rows.1.moved) rows.2.moved
 
   -- where being in front would make x finite and it is not, nothing is projected
   refused : (x : Float) → (T (is_in_front moved) → T (float_is_finite x)) → float_is_finite x ≡ false → (camera : PinholeCamera) (observation : List Float)

@@ -1,8 +1,5 @@
 -- What holds of every projection. Assumes nothing.
-use mathlib.Core.Path.{◌≡◌, refl}
-use mathlib.Core.Bool.{Bool, true, false, ◌&&◌, cond}
-use mathlib.Core.List.{List}
-use lib.Dec.{T}
+use Rattle.std.proofs.Common.{◌≡◌, refl, Bool, true, false, ◌&&◌, cond, T, List}
 use lib.Ieee.{Float, binary64}
 use lib.Ieee.Fits.{and_l, and_r}
 use Rattle.std.specs.Prelude.{Ok, Err, is_ok}
@@ -60,11 +57,17 @@ module _ (camera : PinholeCamera) (observation point : List Float) where
 pub front_finite : (p : List Float) → T (is_in_front p) → T (float_is_finite (p ! 0)) × T (float_is_finite (p ! 1)) × T (float_is_finite (p ! 2))
 unfolding is_in_front
 front_finite p h =
-    let A = float_is_finite (p ! 0) in
-    let B = float_is_finite (p ! 1) in
-    let C = float_is_finite (p ! 2) in
-    let k = and_l (A && B && C) _ h in
-    (and_l A B (and_l (A && B) C k), and_r A B (and_l (A && B) C k), and_r (A && B) C k)
+    let k = and_l (float_is_finite (p ! 0) && float_is_finite (p ! 1) && float_is_finite (p ! 2)) _ h in
+    let xy = and_l (float_is_finite (p ! 0) && float_is_finite (p ! 1)) _ k in
+    (and_l _ _ xy, and_r _ _ xy, and_r _ _ k)
+
+-- what finite figures have: a finite residual
+pub residual_finite : (p : Projection) → T (all_finite p)
+    → T (float_is_finite (p.residual ! 0)) × T (float_is_finite (p.residual ! 1))
+unfolding all_finite
+residual_finite p h =
+    let r = and_l _ _ (and_l _ _ (and_l _ _ (and_l _ _ (and_l _ _ (and_l _ _ h))))) in
+    (and_l _ _ r, and_r _ _ r)
 
 -- what is let through has finite coordinates, a finite observation, and finite figures
 module _ (camera : PinholeCamera) (observation point : List Float)
@@ -79,7 +82,7 @@ module _ (camera : PinholeCamera) (observation point : List Float)
   point_finite = front_finite point (and_l _ _ tests)
 
   pub observation_finite : T (float_is_finite (observation ! 0)) × T (float_is_finite (observation ! 1))
-  unfolding all_finite residual_and_jacobian
+  unfolding residual_and_jacobian
   observation_finite =
-      let residual = and_l _ _ (and_l _ _ (and_l _ _ (and_l _ _ (and_l _ _ (and_l _ _ figures_finite))))) in
-      ((finite_sub binary64 _ _ (and_l _ _ residual)).1, (finite_sub binary64 _ _ (and_r _ _ residual)).1)
+      let r = residual_finite (residual_and_jacobian camera observation point) figures_finite in
+      ((finite_sub binary64 _ _ r.0).1, (finite_sub binary64 _ _ r.1).1)
