@@ -11,7 +11,7 @@ use lib.Ieee.Fits.{round_is}
 use Rattle.std.proofs.Common.{rules}
 pub use Rattle.std.proofs.lemmas.Float.{le_refl}
 use Rattle.std.proofs.lemmas.Float.{lt_irrefl, lt_trans}
-use Rattle.std.specs.Float.{float_is_finite, is_sign_negative}
+use Rattle.std.specs.Float.{float_is_finite}
 use Rattle.numerics.specs.Binary64.{◌⊗◌, relative_tolerance, recip}
 use Rattle.numerics.specs.Classify.{is_nonnegative}
 
@@ -31,14 +31,6 @@ lt_one_way x y h = grind (arith, lt_irrefl x, lt_trans x y x)
 pub nonneg_not_nan : (x : Float) → T (is_nonnegative x) → T (not (is_nan x))
 unfolding is_nonnegative is_nan
 nonneg_not_nan x h = search rules
-
-pub nonneg_is : (x : Float) → T (not (is_nan x)) → is_nonnegative x ≡ not (is_sign_negative x)
-unfolding is_nonnegative is_sign_negative is_nan
-nonneg_is x p = search rules
-
-pub not_negative : (x : Float) → T (is_nonnegative x) → is_sign_negative x ≡ false
-unfolding is_nonnegative is_sign_negative
-not_negative x h = search rules
 
 -- what lies above such a value is one too
 pub nonneg_above : (x y : Float) → T (is_nonnegative x) → T (lt x y) → T (is_nonnegative y)
