@@ -27,6 +27,7 @@ but_one : (k n : ℕ) → last_digits (suc k) n ≡ last_digits k (n / 10) ++ di
 but_one zero n = refl
 but_one (suc k) n = rw (but_one k n, div-div-eq-div-mul n 10 (10 ^ suc k), ← (pow-succ' 10 (suc k))) refl
 
+-- a number of one digit
 one_digit : (n : ℕ) → n < 10 → digit n ∷ [] ≡ decimal n
 one_digit n h = grind (arith, decimal_digit n h)
 
