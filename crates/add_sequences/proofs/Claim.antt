@@ -1,22 +1,16 @@
 -- The claim on every list of calls, proved by one induction over the calls. Assumes nothing.
-use mathlib.Core.Path.{◌≡◌, refl, sym, ap, ◌∙◌, subst}
-use mathlib.Core.Bool.{Bool, true, false, not, ◌&&◌, ◌||◌, cond, and-true, and_assoc, true≢false}
-use mathlib.Core.List.{List, [], ◌∷◌, ◌++◌, map}
-use Prim.Native.Nat.{ℕ, suc, ◌+◌, ◌≤◌}
-use native.Mathlib.Omega.{arith}
-use native.Mathlib.Nat.{le_trans as le-trans·, lt_of_le_of_lt, zero-add}
-use lib.Dec.{T, leb, leb→le, le→leb, ltb→lt, lt→ltb}
-use lib.ListN.{length}
+use Rattle.std.proofs.Common.{◌≡◌, refl, sym, ap, ap₂, ◌∙◌, subst, ℕ, suc, ◌+◌, ◌≤◌, Bool, true, false, not, ◌&&◌, ◌||◌, cond, T, true≢false, List, [], ◌∷◌, ◌++◌, map, length, filter, Result, Ok, Err, Some, None, arith, le-leb, lt-ltb, ltb-true, le_trans as le-trans·, lt_of_le_of_lt, suc-le-suc, zero-add}
+use mathlib.Core.Bool.{and-true, and_assoc}
 use lib.Ieee.{Float, fits, binary64, le, of_bits}
-use lib.Ieee.Bits.{is_true}
 use lib.Ieee.Fits.{add-fits}
-use Rattle.numerics.specs.Binary64.{zero, point_block_rcond_threshold}
+use Rattle.numerics.specs.Binary64.{zero}
 use Rattle.numerics.specs.Classify.{is_nonnegative}
 use Rattle.numerics.proofs.Order.{le_refl, nonneg_not_nan, nonneg_add}
 use Rattle.numerics.proofs.Monotone.{le_add, le_trans, zero-le, nonneg_zero}
 use Rattle.numerics.specs.Extrema.{min}
 use Rattle.numerics.proofs.Laws.{min_le_left, nonneg_min}
-use Rattle.std.specs.Prelude.{Result, Ok, Err, Some, None, is_ok}
+use Rattle.std.specs.List.{list_all}
+use Rattle.std.proofs.lemmas.List.Sums.{length-filter}
 use Rattle.std.specs.Result.{result_err}
 use Rattle.refusal.specs.declared.Refusal.{Refusal}
 use Rattle.refusal.specs.declared.Refusal.TheVariants.{Damping, Full}
@@ -24,122 +18,87 @@ use Rattle.point_block.specs.Condition.{reciprocal_condition_number, is_weak}
 use Rattle.point_block.specs.Damping.{is_valid_damping, is_zero}
 use Rattle.point_block.specs.FactorWithRcond.{factor, factor_with_rcond}
 use Rattle.point_block.specs.declared.PointBlockFactor.{PointBlockFactor}
-use Rattle.point_block.specs.declared.ConditionedFactor.{ConditionedFactor}
-use Rattle.point_block.proofs.Laws.{lone_factors, rcond_nonneg}
+use Rattle.point_block.proofs.Laws.{rcond_nonneg}
 use Rattle.linearization.specs.declared.linearize.LocalLinearization.{LocalLinearization}
 use Rattle.schur.specs.declared.reduced_system.ReducedSystem.{ReducedSystem}
 use Rattle.schur.specs.Reduced.{new_system}
 use Rattle.schur.specs.SchurComplement.{reduced_hessian, reduced_gradient, point_reduction}
-use Rattle.schur.specs.BlockElimination.{Elimination, count_if, unfactored, after_elimination, elimination_of}
-use Rattle.schur.proofs.Room.{blocks_taken, weak_taken_at_most}
-use Rattle.schur.specs.ReducedAdd.{max_blocks, taken_with, taken_by, with_block, add, system_after}
-use Rattle.add_sequences.specs.Calls.{Inputs, linearization_of, Call, Add, RefusedAdd, system_after_call, call_results, system_after_calls, system_after_blocks, Counters, factors, is_ill_conditioned, has_room, count_block, count_calls, refusals_of, blocks_taken_in, all, filter}
+use Rattle.schur.specs.BlockElimination.{count_if, elimination_without_factor, elimination_by_inverse, elimination_of}
+use Rattle.schur.proofs.FactorCases.{factor_cases}
+use Rattle.schur.proofs.Room.{count_if_bounds, blocks_taken, weak_taken_at_most}
+use Rattle.schur.specs.ReducedAdd.{max_blocks, with_block, add, system_after}
+use Rattle.add_sequences.specs.Calls.{Inputs, linearization_of, Call, Add, RefusedAdd, system_after_call, call_results, system_after_calls, system_after_blocks, Counters, factors, is_ill_conditioned, has_room, count_block, count_calls, refusals_of, blocks_taken_in}
 use Rattle.linearization.proofs.Costs.{Costs, made_costs}
-use Rattle.add_sequences.specs.Claim.{CallByCall, system_after_run, TakesInAll, SameEquations, IsMonotone, Claim}
+use Rattle.add_sequences.specs.Claim.{CallByCall, system_after_run, final_system, blocks_of, SumsOverBlocks, SameEquations, IsMonotone, Claim}
 
 -- ---- what one call hands back
 
+-- row 12 does not refuse
 abbrev Counts : ReducedSystem → Type 0
 Counts s = s.weak_point_count ≤ s.block_count
 
-tested : (s : ReducedSystem) → Counts s → leb s.weak_point_count s.block_count ≡ true
-tested s c = is_true (leb s.weak_point_count s.block_count) (le→leb s.weak_point_count s.block_count c)
-
+-- row 3 refuses
 add_bad : (s : ReducedSystem) (b : LocalLinearization) (x : Float) → is_valid_damping x ≡ false → add s b x ≡ Err Damping
 unfolding add
 add_bad s b x h = rw h refl
 
-module _ (d : Float) (good : is_valid_damping d ≡ true) where
+module _ (d : Float) (valid : is_valid_damping d ≡ true) where
+  -- nothing refuses
   add_taken : (s : ReducedSystem) (b : LocalLinearization) → Counts s → has_room s.block_count ≡ true → add s b d ≡ Ok (with_block s b d)
   unfolding add
-  add_taken s b c e = rw (good, tested s c, e) refl
+  add_taken s b c e = rw (valid, le-leb _ _ c, e) refl
 
+  -- row 13 refuses
   add_full : (s : ReducedSystem) (b : LocalLinearization) → Counts s → has_room s.block_count ≡ false → add s b d ≡ Err Full
   unfolding add
-  add_full s b c e = rw (good, tested s c, e) refl
+  add_full s b c e = rw (valid, le-leb _ _ c, e) refl
 
-  -- ---- a block taken in: whether it factors is the lone factor's answer
+  -- ---- a block taken in
 
-  abbrev inverse_in : Result PointBlockFactor Refusal → List Float
-  inverse_in (Ok f) = f.inverse
-  inverse_in (Err r) = []
+  -- its factor is that of `factor_with_rcond`, and so is its rcond
+  module _ (b : LocalLinearization) where
+    factors_if : (f : PointBlockFactor) → factor b.point_hessian d ≡ Ok f → factors d b ≡ true
+    unfolding factors factor_with_rcond
+    factors_if f h = rw (valid, h) refl
 
-  abbrev inverse : LocalLinearization → List Float
-  inverse b = inverse_in (factor b.point_hessian d)
+    factors_unless : (r : Refusal) → factor b.point_hessian d ≡ Err r → factors d b ≡ false
+    unfolding factors factor_with_rcond
+    factors_unless r h = rw (valid, h) refl
 
-  same_factor : (b : LocalLinearization) → is_ok (factor b.point_hessian d) ≡ factors d b
-  unfolding factors
-  same_factor b = sym (lone_factors b.point_hessian d good)
+    same_rcond : (f : PointBlockFactor) → factor b.point_hessian d ≡ Ok f → is_ill_conditioned d b ≡ is_weak (reciprocal_condition_number f.inverse b.point_hessian)
+    unfolding is_ill_conditioned factor_with_rcond
+    same_rcond f h = rw (valid, h) refl
 
-  -- the lone factor's answer, by the factor's
-  abbrev lone_of : LocalLinearization → Result PointBlockFactor Refusal → Result ConditionedFactor Refusal
-  lone_of b f = elim f [ Ok g ↦ Ok (record { factor = g; rcond = reciprocal_condition_number g.inverse b.point_hessian }) | Err r ↦ Err r ]
-
-  same_rcond : (b : LocalLinearization) → factors d b ≡ true → is_weak (reciprocal_condition_number (inverse b) b.point_hessian) ≡ is_ill_conditioned d b
-  unfolding factor_with_rcond is_ill_conditioned
-  same_rcond b e = rw good (by (factor b.point_hessian d) (same_factor b ∙ e))
-    where
-      by : (f : Result PointBlockFactor Refusal) → is_ok f ≡ true
-          → is_weak (reciprocal_condition_number (inverse_in f) b.point_hessian) ≡ le (elim (lone_of b f) [ Ok g ↦ g.rcond | Err r ↦ zero ]) point_block_rcond_threshold
-      by (Ok f) t = refl
-      by (Err r) t = absurd (true≢false (sym t))
-
-  -- what the elimination of a block changes, by the answer on its factor
-  abbrev changed_by : Result PointBlockFactor Refusal → ReducedSystem → LocalLinearization → Elimination
-  changed_by r s b = elim r [ Ok f ↦ after_elimination s b d f.inverse | Err e ↦ unfactored s (is_zero d) ]
-
-  taken_factored : (s : ReducedSystem) (b : LocalLinearization) → factors d b ≡ true → with_block s b d ≡ taken_by s b (after_elimination s b d (inverse b))
-  unfolding with_block elimination_of
-  taken_factored s b e = by (factor b.point_hessian d) (same_factor b ∙ e)
-    where
-      by : (f : Result PointBlockFactor Refusal) → is_ok f ≡ true → taken_by s b (changed_by f s b) ≡ taken_by s b (after_elimination s b d (inverse_in f))
-      by (Ok f) t = refl
-      by (Err r) t = absurd (true≢false (sym t))
-
-  taken_refused : (s : ReducedSystem) (b : LocalLinearization) → factors d b ≡ false → with_block s b d ≡ taken_by s b (unfactored s (is_zero d))
-  unfolding with_block elimination_of
-  taken_refused s b e = by (factor b.point_hessian d) (same_factor b ∙ e)
-    where
-      by : (f : Result PointBlockFactor Refusal) → is_ok f ≡ false → taken_by s b (changed_by f s b) ≡ taken_by s b (unfactored s (is_zero d))
-      by (Ok f) t = absurd (true≢false t)
-      by (Err r) t = refl
-
-  split : (s : ReducedSystem) (b : LocalLinearization) (P : ReducedSystem → Type 0) → (factors d b ≡ true → P (taken_by s b (after_elimination s b d (inverse b))))
-      → (factors d b ≡ false → P (taken_by s b (unfactored s (is_zero d)))) → P (with_block s b d)
-  split s b P f g = by (factors d b) refl
-    where
-      by : (x : Bool) → factors d b ≡ x → P (with_block s b d)
-      by true e = subst P (sym (taken_factored s b e)) (f e)
-      by false e = subst P (sym (taken_refused s b e)) (g e)
-
+  -- the flag and the weak count after it, in the words of the counters
   module _ (s : ReducedSystem) (b : LocalLinearization) where
     valid_taken : (with_block s b d).valid ≡ (s.valid && factors d b)
-    unfolding after_elimination unfactored taken_with
-    valid_taken = split s b (λ t. t.valid ≡ (s.valid && factors d b)) (λ e. rw e refl) (λ e. rw e refl)
+    unfolding with_block elimination_of elimination_by_inverse elimination_without_factor
+    valid_taken = factor_cases b.point_hessian d (λ f h. rw (h, elimination_of, factors_if b f h) refl) (λ r h. rw (h, elimination_of, factors_unless b r h) refl)
 
     weak_taken : (with_block s b d).weak_point_count ≡ count_if (is_zero d && (not (factors d b) || is_ill_conditioned d b)) s.weak_point_count
-    unfolding after_elimination unfactored taken_with
-    weak_taken =
-        split s b (λ t. t.weak_point_count ≡ count_if (is_zero d && (not (factors d b) || is_ill_conditioned d b)) s.weak_point_count)
-        (λ e. ap (λ (z : Bool). count_if z s.weak_point_count) (rw (e, same_rcond b e) refl))
-        (λ e. rw e (ap (λ (z : Bool). count_if z s.weak_point_count) (sym (and-true (is_zero d)))))
+    unfolding with_block elimination_of elimination_by_inverse elimination_without_factor
+    weak_taken = factor_cases b.point_hessian d (λ f h. rw (h, elimination_of, factors_if b f h, same_rcond b f h) refl) (λ r h. rw (h, elimination_of, factors_unless b r h, and-true (is_zero d)) refl)
 
   -- the reduced equations see a block that factors, and no other
   module _ (s t : ReducedSystem) (b : LocalLinearization) (same : SameEquations s t) where
     equations_factored : factors d b ≡ true → SameEquations (with_block s b d) (with_block t b d)
-    unfolding after_elimination taken_with
-    equations_factored e = rw (taken_factored s b e, taken_factored t b e) (record {
-      hessian = ap (λ h. reduced_hessian h (inverse b) b) same.hessian;
-      gradient = ap (λ h. reduced_gradient h (inverse b) b) same.gradient;
-      reduction = ap (λ h. point_reduction h (inverse b) b) same.reduction;
-    })
+    unfolding with_block elimination_of elimination_by_inverse
+    equations_factored e = factor_cases b.point_hessian d
+        (λ f h. rw (h, elimination_of) (record {
+          hessian = ap (λ x. reduced_hessian x f.inverse b) same.hessian;
+          gradient = ap (λ x. reduced_gradient x f.inverse b) same.gradient;
+          reduction = ap (λ x. point_reduction x f.inverse b) same.reduction;
+        }))
+        (λ r h. absurd (true≢false (sym e ∙ factors_unless b r h)))
 
     equations_refused : factors d b ≡ false → SameEquations (with_block s b d) t
-    unfolding unfactored taken_with
-    equations_refused e = rw (taken_refused s b e) (record { hessian = same.hessian; gradient = same.gradient; reduction = same.reduction })
+    unfolding with_block elimination_of elimination_without_factor
+    equations_refused e = factor_cases b.point_hessian d (λ f h. absurd (true≢false (sym (factors_if b f h) ∙ e)))
+        (λ r h. rw (h, elimination_of) (record { hessian = same.hessian; gradient = same.gradient; reduction = same.reduction }))
 
   -- ---- what further calls never do
 
+  -- the counts are in order, and the figures that are compared are numbers not below zero
   record Sound (s : ReducedSystem) : Type 0 where
     counts : Counts s
     cost : T (is_nonnegative s.cost)
@@ -148,6 +107,7 @@ module _ (d : Float) (good : is_valid_damping d ≡ true) where
     squared_fits : T (fits binary64 s.squared_residual)
     rcond : T (is_nonnegative s.minimum_point_rcond)
 
+  -- further calls may do nothing
   further_refl : (s : ReducedSystem) → Sound s → IsMonotone s s
   further_refl s k = record {
     cost = le_refl s.cost (nonneg_not_nan s.cost k.cost);
@@ -157,6 +117,7 @@ module _ (d : Float) (good : is_valid_damping d ≡ true) where
     flag = λ h. h;
   }
 
+  -- and go on
   further_trans : (s t u : ReducedSystem) → IsMonotone s t → IsMonotone t u → IsMonotone s u
   further_trans s t u f g = record {
     cost = le_trans s.cost t.cost u.cost f.cost g.cost;
@@ -166,17 +127,16 @@ module _ (d : Float) (good : is_valid_damping d ≡ true) where
     flag = λ h. g.flag (f.flag h);
   }
 
-  -- a made block's costs are numbers not below zero
+  -- of a block whose costs are numbers not below zero, as those of every block are
   module _ (s : ReducedSystem) (b : LocalLinearization) (k : Sound s) (cost : T (is_nonnegative b.cost)) (squared : T (is_nonnegative b.squared_residual)) where
     -- the smallest rcond stays a number not below zero, and does not rise
     rcond_taken : T (is_nonnegative (with_block s b d).minimum_point_rcond) × T (le (with_block s b d).minimum_point_rcond s.minimum_point_rcond)
-    unfolding after_elimination unfactored taken_with
+    unfolding with_block elimination_of elimination_by_inverse elimination_without_factor
     rcond_taken =
-        split s b (λ t. T (is_nonnegative t.minimum_point_rcond) × T (le t.minimum_point_rcond s.minimum_point_rcond))
-        (λ e. by (is_zero d) (min m (reciprocal_condition_number (inverse b) b.point_hessian))
-        (nonneg_min m (reciprocal_condition_number (inverse b) b.point_hessian) k.rcond (rcond_nonneg (inverse b) b.point_hessian))
-        (min_le_left m (reciprocal_condition_number (inverse b) b.point_hessian) (nonneg_not_nan m k.rcond)))
-        (λ e. by (is_zero d) zero (nonneg_zero binary64) (zero-le m k.rcond))
+        factor_cases b.point_hessian d
+        (λ f h. let r = reciprocal_condition_number f.inverse b.point_hessian in
+        rw (h, elimination_of) (by (is_zero d) (min m r) (nonneg_min m r k.rcond (rcond_nonneg f.inverse b.point_hessian)) (min_le_left m r (nonneg_not_nan m k.rcond))))
+        (λ r h. rw (h, elimination_of) (by (is_zero d) zero (nonneg_zero binary64) (zero-le m k.rcond)))
       where
         m : Float
         m = s.minimum_point_rcond
@@ -185,8 +145,9 @@ module _ (d : Float) (good : is_valid_damping d ≡ true) where
         by true x n l = (n, l)
         by false x n l = (k.rcond, le_refl m (nonneg_not_nan m k.rcond))
 
+    -- the block keeps the figures so
     sound_taken : Sound (with_block s b d)
-    unfolding with_block taken_with
+    unfolding with_block
     sound_taken = record {
       counts = weak_taken_at_most s b d k.counts;
       cost = nonneg_add binary64 s.cost b.cost k.cost cost;
@@ -196,28 +157,28 @@ module _ (d : Float) (good : is_valid_damping d ≡ true) where
       rcond = rcond_taken.0;
     }
 
+    -- and moves none of them the wrong way
     further_taken : IsMonotone s (with_block s b d)
-    unfolding with_block taken_with
+    unfolding with_block
     further_taken = record {
       cost = le_add binary64 s.cost b.cost k.cost_fits k.cost cost;
       squared = le_add binary64 s.squared_residual b.squared_residual k.squared_fits k.squared squared;
-      weak = rw (weak_taken s b) (by (is_zero d && (not (factors d b) || is_ill_conditioned d b)));
+      weak = rw (weak_taken s b) (count_if_bounds (is_zero d && (not (factors d b) || is_ill_conditioned d b)) s.weak_point_count).0;
       rcond = rcond_taken.1;
       flag = λ h. valid_taken s b ∙ ap (λ (x : Bool). x && factors d b) h;
     }
-      where
-        by : (x : Bool) → s.weak_point_count ≤ count_if x s.weak_point_count
-        by true = omega arith
-        by false = omega arith
 
   -- ---- the calls, one by one
 
-  abbrev tally_of : ReducedSystem → Counters
-  tally_of s = record { flag = s.valid; blocks = s.block_count; weak = s.weak_point_count }
+  -- what the counters should be at a system
+  abbrev counters_at : ReducedSystem → Counters
+  counters_at s = record { flag = s.valid; blocks = s.block_count; weak = s.weak_point_count }
 
-  tally_taken : (s : ReducedSystem) (b : LocalLinearization) → tally_of (with_block s b d) ≡ count_block d (tally_of s) b
-  tally_taken s b = rw (valid_taken s b, blocks_taken s b d, weak_taken s b) refl
+  -- they count a block as `add` does
+  counters_taken : (s : ReducedSystem) (b : LocalLinearization) → counters_at (with_block s b d) ≡ count_block d (counters_at s) b
+  counters_taken s b = rw (valid_taken s b, blocks_taken s b d, weak_taken s b) refl
 
+  -- how many blocks are weak at damping zero
   abbrev weak_in : List LocalLinearization → ℕ
   weak_in bs = length (filter (λ b. not (factors d b)) bs) + length (filter (λ b. factors d b && is_ill_conditioned d b) bs)
 
@@ -225,31 +186,33 @@ module _ (d : Float) (good : is_valid_damping d ≡ true) where
   -- that had the same and adds only the blocks that factor.
   record From (s end : ReducedSystem) (t : Counters) (bs : List LocalLinearization) : Type 0 where
     sound : Sound end
-    tallied : tally_of end ≡ t
+    counters : counters_at end ≡ t
     blocks_alone : end ≡ system_after_blocks d s bs
-    takes_in : TakesInAll s bs end
-    how_many : s.block_count + length bs ≡ end.block_count
-    flag : end.valid ≡ (s.valid && all (factors d) bs)
-    elimination : (u : ReducedSystem) → Counts u → T (leb u.block_count s.block_count) → SameEquations s u
+    sums : SumsOverBlocks s end bs
+    block_count : s.block_count + length bs ≡ end.block_count
+    flag : end.valid ≡ (s.valid && list_all (factors d) bs)
+    equations : (u : ReducedSystem) → Counts u → u.block_count ≤ s.block_count → SameEquations s u
         → SameEquations end (system_after_blocks d u (filter (factors d) bs))
     weak_zero : is_zero d ≡ true → end.weak_point_count ≡ s.weak_point_count + weak_in bs
     weak_other : is_zero d ≡ false → end.weak_point_count ≡ s.weak_point_count
     further : IsMonotone s end
 
-  from_none : (s : ReducedSystem) → Sound s → From s s (tally_of s) []
+  -- no calls
+  from_none : (s : ReducedSystem) → Sound s → From s s (counters_at s) []
   from_none s k = record {
     sound = k;
-    tallied = refl;
+    counters = refl;
     blocks_alone = refl;
-    takes_in = record { cost = refl; squared = refl; pose_gradient = refl; pose_diagonal = refl; point_gradient = refl };
-    how_many = omega arith;
+    sums = record { cost = refl; squared = refl; pose_gradient = refl; pose_diagonal = refl; point_gradient = refl };
+    block_count = omega arith;
     flag = sym (and-true s.valid);
-    elimination = λ u c l same. same;
+    equations = λ u c l same. same;
     weak_zero = λ z. omega arith;
     weak_other = λ z. refl;
     further = further_refl s k;
   }
 
+  -- one call that takes its block in, and then others
   module _ (s : ReducedSystem) (i : Inputs) (k : Sound s) (free : has_room s.block_count ≡ true) where
     abbrev b : LocalLinearization
     b = linearization_of i
@@ -261,9 +224,9 @@ module _ (d : Float) (good : is_valid_damping d ≡ true) where
     next_sound = sound_taken s b k costs.0 costs.1
 
     module _ (end : ReducedSystem) (t : Counters) (bs : List LocalLinearization) (f : From (with_block s b d) end t bs) where
-      from_takes_in : TakesInAll s (b ∷ bs) end
-      unfolding with_block taken_with
-      from_takes_in = let g = f.takes_in in record {
+      from_sums : SumsOverBlocks s end (b ∷ bs)
+      unfolding with_block
+      from_sums = let g = f.sums in record {
         cost = g.cost;
         squared = g.squared;
         pose_gradient = g.pose_gradient;
@@ -271,11 +234,11 @@ module _ (d : Float) (good : is_valid_damping d ≡ true) where
         point_gradient = g.point_gradient;
       }
 
-      from_how_many : s.block_count + length (b ∷ bs) ≡ end.block_count
-      from_how_many = let e = f.how_many in let c = blocks_taken s b d in omega arith
+      from_block_count : s.block_count + length (b ∷ bs) ≡ end.block_count
+      from_block_count = let e = f.block_count in let c = blocks_taken s b d in omega arith
 
-      from_flag : end.valid ≡ (s.valid && all (factors d) (b ∷ bs))
-      from_flag = f.flag ∙ ap (λ (x : Bool). x && all (factors d) bs) (valid_taken s b) ∙ and_assoc s.valid (factors d b) (all (factors d) bs)
+      from_flag : end.valid ≡ (s.valid && list_all (factors d) (b ∷ bs))
+      from_flag = f.flag ∙ ap (λ (x : Bool). x && list_all (factors d) bs) (valid_taken s b) ∙ and_assoc s.valid (factors d b) (list_all (factors d) bs)
 
       from_weak : is_zero d ≡ true → end.weak_point_count ≡ s.weak_point_count + weak_in (b ∷ bs)
       from_weak z = by (factors d b) (is_ill_conditioned d b) (f.weak_zero z ∙ ap (λ n. n + weak_in bs) (weak_taken s b ∙ rw z refl))
@@ -287,38 +250,36 @@ module _ (d : Float) (good : is_valid_damping d ≡ true) where
           by true false e = omega arith
           by false y e = omega arith
 
-      from_elimination : (u : ReducedSystem) → Counts u → T (leb u.block_count s.block_count) → SameEquations s u
+      from_equations : (u : ReducedSystem) → Counts u → u.block_count ≤ s.block_count → SameEquations s u
           → SameEquations end (system_after_blocks d u (filter (factors d) (b ∷ bs)))
-      from_elimination u c l same = by (factors d b) refl
+      from_equations u c below same = by (factors d b) refl
         where
-          below : u.block_count ≤ s.block_count
-          below = leb→le u.block_count s.block_count l
-
           u_free : has_room u.block_count ≡ true
-          u_free = is_true (has_room u.block_count) (lt→ltb u.block_count max_blocks (lt_of_le_of_lt below (ltb→lt s.block_count max_blocks (rw free tt))))
+          u_free = lt-ltb u.block_count max_blocks (lt_of_le_of_lt below (ltb-true s.block_count max_blocks free))
 
           by : (x : Bool) → factors d b ≡ x → SameEquations end (system_after_blocks d u (cond x (b ∷ filter (factors d) bs) (filter (factors d) bs)))
           by true e = subst (λ (a : Result ReducedSystem Refusal). SameEquations end (system_after_blocks d (system_after u a) (filter (factors d) bs))) (sym (add_taken u b c u_free))
-              (f.elimination (with_block u b d) (weak_taken_at_most u b d c) (rw (blocks_taken u b d, blocks_taken s b d) (le→leb (suc u.block_count) (suc s.block_count) (omega (arith, below))))
+              (f.equations (with_block u b d) (weak_taken_at_most u b d c) (rw (blocks_taken u b d, blocks_taken s b d) (suc-le-suc below))
               (equations_factored s u b same e))
-          by false e = f.elimination u c (rw (blocks_taken s b d) (le→leb u.block_count (suc s.block_count) (omega (arith, below)))) (equations_refused s u b same e)
+          by false e = f.equations u c (rw (blocks_taken s b d) (omega (arith, below))) (equations_refused s u b same e)
 
       from_taken : From s end t (b ∷ bs)
       from_taken = record {
         sound = f.sound;
-        tallied = f.tallied;
+        counters = f.counters;
         blocks_alone = f.blocks_alone ∙ sym (ap (λ (a : Result ReducedSystem Refusal). system_after_blocks d (system_after s a) bs) (add_taken s b k.counts free));
-        takes_in = from_takes_in;
-        how_many = from_how_many;
+        sums = from_sums;
+        block_count = from_block_count;
         flag = from_flag;
-        elimination = from_elimination;
+        equations = from_equations;
         weak_zero = from_weak;
         weak_other = λ z. f.weak_other z ∙ weak_taken s b ∙ rw z refl;
         further = further_trans s (with_block s b d) end (further_taken s b k costs.0 costs.1) f.further;
       }
 
+  -- the induction, over the calls
   abbrev Rest : List Call → ReducedSystem → Type 0
-  Rest cs s = From s (system_after_calls d s cs) (count_calls d (tally_of s) cs) (blocks_taken_in s.block_count cs)
+  Rest cs s = From s (system_after_calls d s cs) (count_calls d (counters_at s) cs) (blocks_taken_in s.block_count cs)
 
   from : (s : ReducedSystem) (cs : List Call) → Sound s → Rest cs s
   from s [] k = from_none s k
@@ -326,26 +287,28 @@ module _ (d : Float) (good : is_valid_damping d ≡ true) where
   from s (Add i ∷ cs) k = by (has_room s.block_count) refl (λ h. from (with_block s (linearization_of i) d) cs h) (from s cs k)
     where
       by : (x : Bool) → has_room s.block_count ≡ x → (Sound (with_block s (linearization_of i) d) → Rest cs (with_block s (linearization_of i) d)) → Rest cs s
-          → From s (system_after_calls d (system_after s (add s (linearization_of i) d)) cs) (count_calls d (cond x (count_block d (tally_of s) (linearization_of i)) (tally_of s)) cs)
+          → From s (system_after_calls d (system_after s (add s (linearization_of i) d)) cs) (count_calls d (cond x (count_block d (counters_at s) (linearization_of i)) (counters_at s)) cs)
           (cond x (linearization_of i ∷ blocks_taken_in (suc s.block_count) cs) (blocks_taken_in s.block_count cs))
       by true e f g = rw (add_taken s (linearization_of i) k.counts e)
-          (from_taken s i k e (system_after_calls d (with_block s (linearization_of i) d) cs) (count_calls d (count_block d (tally_of s) (linearization_of i)) cs) (blocks_taken_in (suc s.block_count) cs)
-          (rw (← tally_taken s (linearization_of i), ← blocks_taken s (linearization_of i) d) (f (next_sound s i k e))))
+          (from_taken s i k e (system_after_calls d (with_block s (linearization_of i) d) cs) (count_calls d (count_block d (counters_at s) (linearization_of i)) cs) (blocks_taken_in (suc s.block_count) cs)
+          (rw (← counters_taken s (linearization_of i), ← blocks_taken s (linearization_of i) d) (f (next_sound s i k e))))
       by false e f g = rw (add_full s (linearization_of i) k.counts e) g
 
-  refused_each : (s : ReducedSystem) (cs : List Call) → Sound s → map result_err (call_results d s cs) ≡ refusals_of d (tally_of s) cs
-  refused_each s [] k = refl
-  refused_each s (RefusedAdd i x h ∷ cs) k = rw (add_bad s (linearization_of i) x h) (ap (λ l. Some Damping ∷ l) (refused_each s cs k))
-  refused_each s (Add i ∷ cs) k = by (has_room s.block_count) refl (λ h. refused_each (with_block s (linearization_of i) d) cs h) (refused_each s cs k)
+  -- each refusal is that of the counters
+  refusals_each : (s : ReducedSystem) (cs : List Call) → Sound s → map result_err (call_results d s cs) ≡ refusals_of d (counters_at s) cs
+  refusals_each s [] k = refl
+  refusals_each s (RefusedAdd i x h ∷ cs) k = rw (add_bad s (linearization_of i) x h) (ap (λ l. Some Damping ∷ l) (refusals_each s cs k))
+  refusals_each s (Add i ∷ cs) k = by (has_room s.block_count) refl (λ h. refusals_each (with_block s (linearization_of i) d) cs h) (refusals_each s cs k)
     where
       by : (x : Bool) → has_room s.block_count ≡ x
-          → (Sound (with_block s (linearization_of i) d) → map result_err (call_results d (with_block s (linearization_of i) d) cs) ≡ refusals_of d (tally_of (with_block s (linearization_of i) d)) cs)
-          → map result_err (call_results d s cs) ≡ refusals_of d (tally_of s) cs
+          → (Sound (with_block s (linearization_of i) d) → map result_err (call_results d (with_block s (linearization_of i) d) cs) ≡ refusals_of d (counters_at (with_block s (linearization_of i) d)) cs)
+          → map result_err (call_results d s cs) ≡ refusals_of d (counters_at s) cs
           → (result_err (add s (linearization_of i) d) ∷ map result_err (call_results d (system_after s (add s (linearization_of i) d)) cs))
-          ≡ cond x None (Some Full) ∷ refusals_of d (cond x (count_block d (tally_of s) (linearization_of i)) (tally_of s)) cs
-      by true e f g = rw (add_taken s (linearization_of i) k.counts e, ← tally_taken s (linearization_of i)) (ap (λ l. None ∷ l) (f (next_sound s i k e)))
+          ≡ cond x None (Some Full) ∷ refusals_of d (cond x (count_block d (counters_at s) (linearization_of i)) (counters_at s)) cs
+      by true e f g = rw (add_taken s (linearization_of i) k.counts e, ← counters_taken s (linearization_of i)) (ap (λ l. None ∷ l) (f (next_sound s i k e)))
       by false e f g = rw (add_full s (linearization_of i) k.counts e) (ap (λ l. Some Full ∷ l) g)
 
+  -- one list and then another
   after_append : (s : ReducedSystem) (cs more : List Call) → system_after_calls d s (cs ++ more) ≡ system_after_calls d (system_after_calls d s cs) more
   after_append s [] more = refl
   after_append s (c ∷ cs) more = after_append (system_after_call d s c) cs more
@@ -359,6 +322,7 @@ module _ (d : Float) (good : is_valid_damping d ≡ true) where
       let k = ran_each (system_after s r) cs rs h.1 in
       subst (λ (x : Result ReducedSystem Refusal). (r ∷ rs ≡ x ∷ call_results d (system_after s x) cs) × (system_after_run (system_after s r) rs ≡ system_after_calls d (system_after s x) cs)) h.0 (ap (λ l. r ∷ l) k.0, k.1)
 
+  -- the figures of a new system are such numbers
   sound_new : Sound new_system
   unfolding new_system is_nonnegative of_bits fits
   sound_new = record { counts = omega arith; cost = tt; cost_fits = tt; squared = tt; squared_fits = tt; rcond = tt }
@@ -369,17 +333,20 @@ module _ (d : Float) (good : is_valid_damping d ≡ true) where
   unfolding new_system
   claim calls = let f = from new_system calls sound_new in record {
     figures = λ ran h. let k = ran_each new_system calls ran h in record { each = k.0; last = k.1; blocks_alone = k.1 ∙ f.blocks_alone };
-    tallied = record {
-      flag = ap (λ (t : Counters). t.flag) f.tallied;
-      blocks = ap (λ (t : Counters). t.blocks) f.tallied;
-      weak = ap (λ (t : Counters). t.weak) f.tallied;
-      refused = refused_each new_system calls sound_new;
+    counters = record {
+      flag = ap (λ (t : Counters). t.flag) f.counters;
+      blocks = ap (λ (t : Counters). t.blocks) f.counters;
+      weak = ap (λ (t : Counters). t.weak) f.counters;
+      refusals = refusals_each new_system calls sound_new;
     };
-    takes_in = f.takes_in;
-    how_many = sym (zero-add (length (blocks_taken_in 0 calls))) ∙ f.how_many ∙ ap (λ (t : Counters). t.blocks) f.tallied;
+    sums = f.sums;
+    block_count = sym (zero-add (length (blocks_of calls))) ∙ f.block_count ∙ ap (λ (t : Counters). t.blocks) f.counters;
     flag = f.flag;
-    elimination = f.elimination new_system sound_new.counts tt (record { hessian = refl; gradient = refl; reduction = refl });
-    weak = record { undamped = λ z. f.weak_zero z ∙ zero-add (weak_in (blocks_taken_in 0 calls)); damped = f.weak_other };
-    further = λ more. subst (IsMonotone (system_after_calls d new_system calls)) (sym (after_append new_system calls more))
-        (from (system_after_calls d new_system calls) more f.sound).further;
+    equations = f.equations new_system sound_new.counts (omega arith) (record { hessian = refl; gradient = refl; reduction = refl });
+    weak = record {
+      undamped = λ z. let bs = blocks_of calls in f.weak_zero z ∙ zero-add (weak_in bs) ∙ ap₂ (λ (m n : ℕ). m + n) (length-filter _ bs) (length-filter _ bs);
+      damped = f.weak_other;
+    };
+    further = λ more. subst (IsMonotone (final_system d calls)) (sym (after_append new_system calls more))
+        (from (final_system d calls) more f.sound).further;
   }

@@ -1,3 +1,3 @@
--- Lists of calls of `add`, and what holds of every one.
+-- Lists of calls of `add` of schur.rs, and what holds of every one.
 pub mod Calls
 pub mod Claim

@@ -1,22 +1,15 @@
 -- A list of adds over the C interface reaches the system that `add` gives, call by call. Assumes
 -- nothing.
-use mathlib.Core.Path.{◌≡◌, refl, ap, ap₂, ◌∙◌, subst⁻¹}
-use mathlib.Core.Bool.{Bool, true, false, cond}
-use mathlib.Core.List.{List, [], ◌∷◌, map}
-use Prim.Native.Nat.{ℕ}
-use lib.Dec.{leb, ltb}
-use lib.ListN.{length}
-use lib.Ieee.{Float}
-use Rattle.std.specs.Prelude.{Result, Ok, Err}
+use Rattle.std.proofs.Common.{◌≡◌, refl, ap, ap₂, ◌∙◌, Bool, true, false, cond, List, [], ◌∷◌, map, ℕ, length, Float, Result, Ok, Err}
+use mathlib.Core.Path.{subst⁻¹}
 use Rattle.std.specs.Result.{result_and}
+use Rattle.refusal.specs.Chain.{◌>>=◌}
 use Rattle.refusal.specs.Outcome.{Outcome, outcome}
 use Rattle.refusal.specs.FirstRefusal.{CheckResult}
 use Rattle.refusal.specs.declared.Refusal.{Refusal}
-use Rattle.refusal.specs.declared.Refusal.TheVariants.{Damping, WeakCount, Full}
+use Rattle.refusal.specs.declared.Refusal.TheVariants.{Damping}
 use Rattle.linearization.specs.Accumulate.{pose_hessian, cross_hessian, point_hessian, pose_gradient, point_gradient}
-use Rattle.point_block.specs.Damping.{is_valid_damping, is_zero}
-use Rattle.point_block.specs.FactorWithRcond.{factor}
-use Rattle.point_block.specs.declared.PointBlockFactor.{PointBlockFactor}
+use Rattle.point_block.specs.Damping.{is_valid_damping}
 use Rattle.schur.specs.PoseModel.{sum5}
 use Rattle.linearization.specs.Views.{check_views, views_of}
 use Rattle.linearization.specs.declared.views.LinearizedViews.{LinearizedViews}
@@ -25,8 +18,9 @@ use Rattle.linearization.specs.declared.linearize.LocalLinearization.{LocalLinea
 use Rattle.schur.specs.SchurComplement.{reduced_hessian, reduced_gradient}
 use Rattle.schur.specs.declared.reduced_system.ReducedSystem.{ReducedSystem}
 use Rattle.schur.specs.Reduced.{new_system}
-use Rattle.schur.specs.BlockElimination.{unfactored, after_elimination, elimination_of}
-use Rattle.schur.specs.ReducedAdd.{max_blocks, taken_with, taken_by, with_block, add, system_after}
+use Rattle.schur.specs.BlockElimination.{elimination_without_factor, elimination_by_inverse, elimination_of}
+use Rattle.schur.proofs.FactorCases.{factor_cases}
+use Rattle.schur.specs.ReducedAdd.{with_block, check_room, take_in, add, system_after}
 use Rattle.add_sequences.specs.Calls.{Inputs, linearization_of, Call, Add, RefusedAdd, call_result, system_after_call, call_results, system_after_calls, Counters, zero_counters, count_calls}
 use Rattle.add_sequences.proofs.Claim.{claim}
 use Rattle.c_calls.specs.Outcomes.{code}
@@ -39,6 +33,7 @@ use Rattle.c_calls.proofs.ReadBack.{Sized, numbers_long, counts_long, system_rea
 
 -- ---- the lengths that blocks and systems have
 
+-- a block has its lengths, and so have the zeros beside a refusal
 block_sized : (r : CheckResult) (v : LinearizedViews) (w : Float) → SizedBlock (Linearize.block_or_zeros (result_and r (Ok (Linearize.block v w))))
 unfolding Linearize.zero_linearization Linearize.block Linearize.sums Linearize.terms pose_hessian cross_hessian point_hessian pose_gradient point_gradient
 block_sized (Ok t) v w = record { pose_hessian = refl; cross_hessian = refl; point_hessian = refl; pose_gradient = refl; point_gradient = refl }
@@ -52,26 +47,26 @@ new_sized : Sized new_system
 unfolding new_system
 new_sized = record { hessian = refl; gradient = refl; full_gradient = refl; diagonal = refl }
 
--- a block taken in, whether it factors or not
-taken_sized : (f : Result PointBlockFactor Refusal) (s : ReducedSystem) (b : LocalLinearization) (d : Float) → Sized s
-    → Sized (taken_by s b (elim f [ Ok g ↦ after_elimination s b d g.inverse | Err r ↦ unfactored s (is_zero d) ]))
-unfolding taken_with after_elimination unfactored reduced_hessian reduced_gradient sum5
-taken_sized (Ok f) s b d k = record { hessian = refl; gradient = refl; full_gradient = refl; diagonal = refl }
-taken_sized (Err r) s b d k = record { hessian = k.hessian; gradient = k.gradient; full_gradient = refl; diagonal = refl }
+-- a system with a block, whether it factors or not
+with_block_sized : (s : ReducedSystem) (b : LocalLinearization) (d : Float) → Sized s → Sized (with_block s b d)
+unfolding with_block elimination_of elimination_by_inverse elimination_without_factor reduced_hessian reduced_gradient sum5
+with_block_sized s b d k =
+    factor_cases b.point_hessian d (λ f h. rw (h, elimination_of) (record { hessian = refl; gradient = refl; full_gradient = refl; diagonal = refl }))
+    (λ r h. rw (h, elimination_of) (record { hessian = k.hessian; gradient = k.gradient; full_gradient = refl; diagonal = refl }))
 
--- what `add` leaves, by its three tests
-handed_sized : (s t : ReducedSystem) (x y z : Bool) → Sized s → Sized t
-    → Sized (system_after s (cond x (cond y (cond z (Ok t) (Err Full)) (Err WeakCount)) (Err Damping)))
-handed_sized s t true true true k l = l
-handed_sized s t true true false k l = k
-handed_sized s t true false z k l = k
-handed_sized s t false y z k l = k
+-- s or t, as a check decides
+checked_sized : (s t : ReducedSystem) (r : CheckResult) → Sized s → Sized t → Sized (system_after s (result_and r (Ok t)))
+checked_sized s t (Ok x) k l = l
+checked_sized s t (Err e) k l = k
 
+-- what `add` leaves has its lengths
 add_sized : (s : ReducedSystem) (b : LocalLinearization) (d : Float) → Sized s → Sized (system_after s (add s b d))
-unfolding add with_block elimination_of
-add_sized s b d k =
-    handed_sized s (with_block s b d) (is_valid_damping d) (leb s.weak_point_count s.block_count) (ltb s.block_count max_blocks) k
-    (taken_sized (factor b.point_hessian d) s b d k)
+unfolding add
+add_sized s b d k = by (is_valid_damping d)
+  where
+    by : (x : Bool) → Sized (system_after s (cond x (Ok d) (Err Damping) >>= take_in s b))
+    by true = checked_sized s (with_block s b d) (check_room s) k (with_block_sized s b d k)
+    by false = k
 
 -- ---- one call
 
@@ -132,10 +127,10 @@ new_written : (x : List Float) (counts : List ℕ) → length x ≡ 45 → lengt
 unfolding Calls.new_system
 new_written x counts e f = rw (e, f) refl
 
--- the counts of the system that a list reaches, by its tally
-counts_tallied : (s : ReducedSystem) (t : Counters) → s.valid ≡ t.flag → s.block_count ≡ t.blocks → s.weak_point_count ≡ t.weak → system_counts s ≡ counter_numbers t
+-- the counts of the system that a list reaches, by its counters
+counts_agree : (s : ReducedSystem) (t : Counters) → s.valid ≡ t.flag → s.block_count ≡ t.blocks → s.weak_point_count ≡ t.weak → system_counts s ≡ counter_numbers t
 unfolding system_counts
-counts_tallied s t e f g = rw (e, f, g) refl
+counts_agree s t e f g = rw (e, f, g) refl
 
 begun_reaches : (d : Float) (calls : List Call) → Reaches d calls (held new_system (Ok new_system))
 unfolding code
@@ -147,8 +142,8 @@ begun_reaches d calls =
       codes = codes_back d new_system calls new_sized;
       read = ap (λ (m : SystemMemory). system m.numbers m.counts) l ∙ system_read (system_after_calls d new_system calls) (after_sized d new_system calls new_sized);
       counts = λ good.
-          let t = (claim d good calls).tallied in
-          ap (λ (m : SystemMemory). m.counts) l ∙ counts_tallied (system_after_calls d new_system calls) (count_calls d zero_counters calls) t.flag t.blocks t.weak;
+          let t = (claim d good calls).counters in
+          ap (λ (m : SystemMemory). m.counts) l ∙ counts_agree (system_after_calls d new_system calls) (count_calls d zero_counters calls) t.flag t.blocks t.weak;
     }
 
 -- ---- the theorem

@@ -1,11 +1,5 @@
 -- A system and a block are read back from the numbers that are written for them. Assumes nothing.
-use mathlib.Core.Path.{◌≡◌, refl, sym, ap₂, ◌∙◌}
-use mathlib.Core.Bool.{Bool, true, false, not}
-use mathlib.Core.List.{List, [], ◌∷◌, ◌++◌, append-nil, append_assoc}
-use Prim.Native.Nat.{ℕ, ◌+◌}
-use native.Mathlib.Nat.{zero-add}
-use lib.Dec.{eqb}
-use lib.ListN.{length, length-append}
+use Rattle.std.proofs.Common.{◌≡◌, refl, Bool, true, false, not, List, [], ◌∷◌, ◌++◌, append-nil, append_assoc, ℕ, ◌+◌, zero-add, eqb, length, length-append}
 use lib.Ieee.{Float}
 use Rattle.numerics.specs.Vectors.{◌!◌}
 use Rattle.linearization.specs.declared.linearize.LocalLinearization.{LocalLinearization}
@@ -26,17 +20,9 @@ record Six (x a b c d e f : List Float) (i j k l m n : ℕ) : Type 0 where
   fifth : part (i + j + k + l) m x ≡ e
   sixth : part (i + j + k + l + m) n x ≡ f
 
+-- the same with nothing behind the last
 nested : (a b c d e f : List Float) → a ++ b ++ c ++ d ++ e ++ f ≡ a ++ (b ++ (c ++ (d ++ (e ++ (f ++ [])))))
-nested a b c d e f =
-    sym (append-nil (a ++ b ++ c ++ d ++ e ++ f))
-    ∙ append_assoc (a ++ b ++ c ++ d ++ e) f []
-    ∙ append_assoc (a ++ b ++ c ++ d) e (f ++ [])
-    ∙ append_assoc (a ++ b ++ c) d (e ++ (f ++ []))
-    ∙ append_assoc (a ++ b) c (d ++ (e ++ (f ++ [])))
-    ∙ append_assoc a b (c ++ (d ++ (e ++ (f ++ []))))
-
-append_long : (p q : List Float) (i j : ℕ) → length p ≡ i → length q ≡ j → length (p ++ q) ≡ i + j
-append_long p q i j e f = length-append p q ∙ ap₂ (λ (r s : ℕ). r + s) e f
+nested a b c d e f = simp (append_assoc, append-nil)
 
 six : (a b c d e f : List Float) (i j k l m n : ℕ) → length a ≡ i → length b ≡ j → length c ≡ k → length d ≡ l → length e ≡ m → length f ≡ n
     → Six (a ++ b ++ c ++ d ++ e ++ f) a b c d e f i j k l m n
@@ -55,12 +41,8 @@ six a b c d e f i j k l m n p q r s t u =
     let from4 = from_next x c y3 (i + j) k from3 r in
     let from5 = from_next x d y4 (i + j + k) l from4 s in
     let from6 = from_next x e y5 (i + j + k + l) m from5 t in
-    let two = append_long a b i j p q in
-    let three = append_long (a ++ b) c (i + j) k two r in
-    let four = append_long (a ++ b ++ c) d (i + j + k) l three s in
-    let five = append_long (a ++ b ++ c ++ d) e (i + j + k + l) m four t in
     record {
-      long = append_long (a ++ b ++ c ++ d ++ e) f (i + j + k + l + m) n five u;
+      long = simp length-append (rw (p, q, r, s, t, u) refl);
       first = part_from x a y1 0 i from1 p;
       second = part_from x b y2 i j from2 q;
       third = part_from x c y3 (i + j) k from3 r;

@@ -1,41 +1,29 @@
--- Numbers put one after the other. Assumes nothing.
-use mathlib.Core.Path.{◌≡◌, refl, sym, ap, ◌∙◌}
-use mathlib.Core.List.{List, [], ◌++◌, append-nil}
-use Prim.Native.Nat.{ℕ, ◌+◌, ◌-◌, ◌≤◌}
-use native.Mathlib.Omega.{arith}
-use lib.ListN.{length, length-append, length-drop, take, drop, drop_of_length-le}
-use lib.Seq.{paste, take-length, take_at, drop-append-add}
-use lib.Ieee.{Float}
+-- Lists written one behind the other into an array are their concatenation.
+use Rattle.std.proofs.Common.{◌≡◌, refl, sym, ap, ◌∙◌, List, [], ◌++◌, ℕ, ◌+◌, ◌≤◌, length, drop_of_length-le, append-nil, length-append, zero-add, arith}
+use lib.Seq.{paste}
+use Rattle.std.proofs.lemmas.List.Edits.{paste_all, paste-paste}
+use Rattle.std.specs.Prelude.{Float}
 use Rattle.c_calls.specs.Slices.{put}
 
--- p was put so far, and q stands behind it
-pub record Put (x p q : List Float) (at left : ℕ) : Type 0 where
-  same : x ≡ p ++ q
-  before : length p ≡ at
-  behind : length q ≡ left
+-- x is the array d with s written at its front, and n is how many numbers s has
+pub record Front (d x s : List Float) (n : ℕ) : Type 0 where
+  same : x ≡ put s 0 d
+  long : length s ≡ n
 
-pub put_none : (x : List Float) (n : ℕ) → length x ≡ n → Put x [] x 0 n
-put_none x n e = record { same = refl; before = refl; behind = e }
+pub nothing_written : (d : List Float) → Front d d [] 0
+nothing_written d = record { same = refl; long = refl }
 
-module _ (x p q y v : List Float) (at left n : ℕ) (h : Put x p q at left) (l : length v ≡ n) (e : y ≡ put v at x) where
-  put_behind : y ≡ p ++ v ++ drop n q
-  put_behind =
-      e
-      ∙ ap (λ (t : List Float). paste t at v (length v)) h.same
-      ∙ ap (λ (t : List Float). t ++ take (length v) v ++ drop (at + length v) (p ++ q)) (take_at p q at h.before)
-      ∙ ap (λ (t : List Float). p ++ t ++ drop (at + length v) (p ++ q)) (take-length v)
-      ∙ ap (λ (m : ℕ). p ++ v ++ drop (m + length v) (p ++ q)) (sym h.before)
-      ∙ ap (λ (t : List Float). p ++ v ++ t) (drop-append-add p q (length v))
-      ∙ ap (λ (m : ℕ). p ++ v ++ drop m q) l
-
-  pub put_next : Put y (p ++ v) (drop n q) (at + n) (left - n)
-  put_next = record {
-    same = put_behind;
-    before = length-append p v ∙ ap (λ (m : ℕ). m + length v) h.before ∙ ap (λ (m : ℕ). at + m) l;
-    behind = length-drop n q ∙ ap (λ (m : ℕ). m - n) h.behind;
+module _ (d x s v y : List Float) (n m : ℕ) (h : Front d x s n) (l : length v ≡ m) (e : y ≡ put v n x) where
+  -- v is written behind s
+  pub next_written : Front d y (s ++ v) (n + m)
+  next_written = record {
+    same = e ∙ rw (h.same, ← h.long, length-append)
+        (ap (λ (k : ℕ). paste (put s 0 d) k v (length v)) (sym (zero-add (length s))) ∙ paste-paste d 0 s v (length s) (length v) refl refl (omega arith));
+    long = omega (arith, length-append {A = Float});
   }
 
-  pub put_last : left ≡ n → y ≡ p ++ v
-  put_last all =
-      let m : length q ≤ n = omega (arith, h.behind, all) in
-      put_behind ∙ ap (λ (t : List Float). p ++ v ++ t) (drop_of_length-le q m) ∙ append-nil (p ++ v)
+-- s fills the array
+pub all_written : (d x s : List Float) (n : ℕ) → Front d x s n → length d ≡ n → x ≡ s
+all_written d x s n h l =
+    let m : length d ≤ 0 + length s = omega (arith, h.long) in
+    h.same ∙ paste_all d 0 s (length s) refl ∙ rw (drop_of_length-le d m) (append-nil s)

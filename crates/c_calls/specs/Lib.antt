@@ -1,5 +1,5 @@
--- What the calls of the C interface answer, how structs are laid out as flat numbers, and a list of
--- adds.
+-- The outcomes of the calls of the C interface, the layouts of its arrays, and what a list of adds
+-- over C leaves (docs/SPECIFICATION.md, "C interface").
 pub mod Slices
 pub mod Outcomes
 pub mod Layout

@@ -1,4 +1,5 @@
--- What stands beside a refusal in a call that makes something, as the numbers of the C interface.
+-- What stands beside the refusal of a call that makes something, in the layouts of the C interface
+-- (docs/SPECIFICATION.md, "Refusals", "What stands beside a refusal").
 use Rattle.std.specs.Prelude.{◌≡◌, [], ◌∷◌}
 use Rattle.numerics.specs.Vectors.{zeros}
 use Rattle.projection.specs.PixelProjection.{zero_projection}
@@ -13,7 +14,7 @@ use Rattle.c_calls.specs.MatrixCalls.{factor_numbers}
 use Rattle.c_calls.specs.PointCalls.{projection_numbers, point_step_numbers}
 use Rattle.c_calls.specs.StepCalls.{step_numbers, step_count}
 
--- every number is +0, and the count is 0
+-- every number of each layout is +0, and the weak count is 0
 pub record EveryNumberIsZero : Type 0 where
   pub projection : projection_numbers zero_projection ≡ zeros 8
   pub factor : zero_factor.inverse ≡ zeros 6

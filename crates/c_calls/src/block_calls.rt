@@ -1,5 +1,5 @@
-// The calls of the C interface on a point, over lent slices: its projection, its block and how it
-// moves. A block is 59 numbers. `pixel_step` exports them.
+//! The calls of the C interface on a point, over lent slices: its projection, its block of the
+//! normal equations and its step (docs/SPECIFICATION.md, "C interface"). `pixel_step` exports them.
 
 ghost use Rattle.std.specs.Prelude.{◌≡◌};
 ghost use Rattle.c_calls.specs.Outcomes as Outcomes;
@@ -10,8 +10,16 @@ use projection::Projection;
 use schur::point_step;
 use schur::point_step::PointStep;
 
-/// The projection of a point. camera: fx, fy, cx, cy, skew; observation: 2; point: 3; out: residual
-/// 2, Jacobian 6
+/// The residual of a point in the camera's frame against its observation, and the Jacobian of the
+/// residual by the point.
+///
+/// - `camera` (5): fx, fy, cx, cy, skew
+/// - `observation` (2): x, y
+/// - `point` (3): x, y, z
+/// - `out` (8): residual (2), Jacobian by rows (6)
+///
+/// Refuses: row 1, then row 9.
+/// The formula: `projection::pixel_projection`.
 #[tactic(auto, unfolding(crate::specs::PointCalls::pixel_projection))]
 pub fn pixel_projection(camera: &[f64], observation: &[f64], point: &[f64], out: &mut [f64]) -> u64
     ensures { Outcomes.HasOutcome result out.new
@@ -20,16 +28,24 @@ pub fn pixel_projection(camera: &[f64], observation: &[f64], point: &[f64], out:
     if camera.len() != 5 || observation.len() != 2 || point.len() != 3 || out.len() != 8 {
         return outcomes::lengths();
     }
-    let projected = projection::pixel_projection(
+    let projection = projection::pixel_projection(
         &layout::camera(slices::whole(camera)),
         slices::whole(observation),
         slices::whole(point),
     );
-    outcomes::store_result(projected.map(projection_numbers), out)
+    outcomes::store_result(projection.map(projection_numbers), out)
 }
 
-/// The block of a point. rig: 29; correspondence: point, view 1, view 2, inverse deviation, 8; out:
-/// a block
+/// The block of a correspondence: its part of the normal equations, from both views.
+///
+/// - `rig` (29): camera 1 (5), camera 2 (5), rotation by rows (9), translation (3), translation
+///   basis (two vectors of 3), baseline
+/// - `correspondence` (8): point (3), view 1 (2), view 2 (2), inverse standard deviation
+/// - `out` (59): pose Hessian (25), cross Hessian (15), point Hessian (9), pose gradient (5), point
+///   gradient (3), cost, squared residual
+///
+/// Refuses: row 1, then row 4, then row 9 with view 1 or 2.
+/// The formula: `linearization::linearize_point`.
 #[tactic(auto, unfolding(crate::specs::PointCalls::linearize_point))]
 pub fn linearize_point(rig: &[f64], correspondence: &[f64], out: &mut [f64]) -> u64
     ensures { Outcomes.HasOutcome result out.new
@@ -45,7 +61,15 @@ pub fn linearize_point(rig: &[f64], correspondence: &[f64], out: &mut [f64]) -> 
     outcomes::store_result(block.map(layout::numbers::block_numbers), out)
 }
 
-/// How a point moves with a step of the pose. pose_step: 5; out: step 3, damping norm
+/// The step of a point that goes with a step of the pose, in units of the baseline, and its
+/// damping norm.
+///
+/// - `block` (59): laid out as by `linearize_point`
+/// - `pose_step` (5): rotation (3), translation (2)
+/// - `out` (4): step (3), damping norm
+///
+/// Refuses: row 1, then row 3, then row 10.
+/// The formula: `schur::point_step::point_step_with_damping_norm`.
 #[tactic(auto, unfolding(crate::specs::PointCalls::point_step))]
 pub fn point_step_with_damping_norm(
     block: &[f64],
@@ -67,7 +91,7 @@ pub fn point_step_with_damping_norm(
     outcomes::store_result(step.map(point_step_numbers), out)
 }
 
-// Residual and Jacobian
+// The residual, then the Jacobian
 fn projection_numbers(p: Projection) -> [f64; 8]
     ensures { result ≡ Calls.projection_numbers p }
 {
@@ -76,7 +100,7 @@ fn projection_numbers(p: Projection) -> [f64; 8]
     [r[0], r[1], j[0], j[1], j[2], j[3], j[4], j[5]]
 }
 
-// Step and damping norm
+// The step, then its damping norm
 fn point_step_numbers(p: PointStep) -> [f64; 4]
     ensures { result ≡ Calls.point_step_numbers p }
 {

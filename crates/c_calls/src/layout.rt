@@ -1,4 +1,5 @@
-// The structs of the C interface, read from the flat numbers of lent slices.
+//! The structs of the calls, read from the flat numbers of lent slices in the layouts of
+//! docs/SPECIFICATION.md, "C interface".
 
 pub(crate) mod numbers;
 
@@ -11,6 +12,7 @@ use linearization::views::{Correspondence, RelativePose, Rig};
 use projection::PinholeCamera;
 use schur::reduced_system::ReducedSystem;
 
+// fx, fy, cx, cy, skew
 pub(crate) fn camera(x: [f64; 5]) -> PinholeCamera
     ensures { result ≡ Layout.camera x }
 {
@@ -23,7 +25,7 @@ pub(crate) fn camera(x: [f64; 5]) -> PinholeCamera
     }
 }
 
-// Camera 1 and 2, then how the second one sits
+// Camera 1 and 2, rotation, translation, translation basis, baseline
 #[tactic(auto, unfolding(crate::specs::Layout::rig))]
 pub(crate) fn rig(x: &[f64]) -> Rig
     requires { length x.now ≡ 29 }
@@ -41,6 +43,7 @@ pub(crate) fn rig(x: &[f64]) -> Rig
     }
 }
 
+// The point, where view 1 and view 2 saw it, the inverse standard deviation
 #[tactic(auto, unfolding(crate::specs::Layout::correspondence))]
 pub(crate) fn correspondence(x: &[f64]) -> Correspondence
     requires { length x.now ≡ 8 }
@@ -54,6 +57,7 @@ pub(crate) fn correspondence(x: &[f64]) -> Correspondence
     }
 }
 
+// The Hessians by rows, the gradients, cost, squared residual
 #[tactic(auto, unfolding(crate::specs::Layout::block))]
 pub(crate) fn block(x: &[f64]) -> LocalLinearization
     requires { length x.now ≡ 59 }
@@ -70,7 +74,7 @@ pub(crate) fn block(x: &[f64]) -> LocalLinearization
     }
 }
 
-// The flag is false where it is 0.
+// From 45 numbers and three counts; the flag is false where it is 0.
 #[tactic(auto, unfolding(crate::specs::Layout::system))]
 pub(crate) fn system(x: &[f64], counts: &[u16]) -> ReducedSystem
     requires { (length x.now ≡ 45) × (length counts.now ≡ 3) }
@@ -85,9 +89,9 @@ pub(crate) fn system(x: &[f64], counts: &[u16]) -> ReducedSystem
         pose_diagonal: slices::part(x, 37),
         point_model_reduction: x[42],
         scaled_point_gradient_inf_norm: x[43],
-        weak_point_count: counts[0],
         minimum_point_rcond: x[44],
-        valid: counts[2] != 0,
+        weak_point_count: counts[0],
         block_count: counts[1],
+        valid: counts[2] != 0,
     }
 }

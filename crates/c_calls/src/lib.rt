@@ -1,8 +1,9 @@
 // SPDX-FileCopyrightText: 2026 Pierre Moulon and OpenMVG Rust contributors
 // SPDX-License-Identifier: MIT OR Apache-2.0
 
-// The calls of the C interface over numbers and lent slices, each with its answer for slices of
-// every length. `pixel_step` exports them under their C names.
+//! The calls of the C interface over numbers and lent slices, each with its outcome for slices of
+//! every length (docs/SPECIFICATION.md, "C interface"). `pixel_step` exports them under their C
+//! names.
 #![tactic(auto)]
 
 mod adds_over_c;

@@ -1,5 +1,6 @@
-// The calls of the C interface on matrices, over lent slices: the 3 by 3 point block and the 5 by 5
-// solve. A matrix is given row by row, an inverse is 6 numbers, packed. `pixel_step` exports them.
+//! The calls of the C interface on matrices, over lent slices: the 3 by 3 point block and the 5 by
+//! 5 solve (docs/SPECIFICATION.md, "C interface"). A matrix stands by rows, an inverse is packed as
+//! 00, 10, 11, 20, 21, 22. `pixel_step` exports them.
 
 ghost use Rattle.std.specs.Prelude.{◌≡◌};
 ghost use Rattle.c_calls.specs.Outcomes as Outcomes;
@@ -9,7 +10,13 @@ use crate::{outcomes, slices};
 use point_block::point_damping::ValidDamping;
 use point_block::{ConditionedFactor, PointBlockFactor, point_damping};
 
-/// The diagonal that the damping scales. out: 3
+/// What the damping of a point block is multiplied with: its diagonal, raised to a floor.
+///
+/// - `matrix` (9): by rows
+/// - `out` (3)
+///
+/// Refuses: row 1, then row 10.
+/// The formula: `point_block::point_damping::damping_diagonal`.
 #[tactic(auto, unfolding(crate::specs::MatrixCalls::damping_diagonal))]
 pub fn damping_diagonal(matrix: &[f64], out: &mut [f64]) -> u64
     ensures { Outcomes.HasOutcome result out.new (Calls.damping_diagonal matrix.now out.old) }
@@ -20,7 +27,12 @@ pub fn damping_diagonal(matrix: &[f64], out: &mut [f64]) -> u64
     outcomes::store_result(point_damping::damping_diagonal(slices::whole(matrix)), out)
 }
 
-/// The damped matrix. Tests row 3 before the matrix. out: 9
+/// A point block with `damping` times its damping diagonal added to its diagonal.
+///
+/// - `matrix` (9), `out` (9): by rows
+///
+/// Refuses: row 1, then row 3, then row 10.
+/// The formula: `point_block::point_damping::damped_matrix`.
 #[tactic(auto, unfolding(crate::specs::MatrixCalls::damped_matrix))]
 pub fn damped_matrix(matrix: &[f64], damping: f64, out: &mut [f64]) -> u64
     ensures { Outcomes.HasOutcome result out.new (Calls.damped_matrix matrix.now damping out.old) }
@@ -35,7 +47,13 @@ pub fn damped_matrix(matrix: &[f64], damping: f64, out: &mut [f64]) -> u64
     outcomes::store_result(damped, out)
 }
 
-/// The packed inverse. matrix: damped already; out: 6
+/// The inverse of a matrix that is damped already, by Cholesky's method.
+///
+/// - `matrix` (9): by rows
+/// - `out` (6): the inverse, packed as 00, 10, 11, 20, 21, 22
+///
+/// Refuses: row 1, then row 10.
+/// The formula: `point_block::PointBlockFactor::factor_damped`.
 #[tactic(auto, unfolding(crate::specs::MatrixCalls::factor_damped))]
 pub fn factor_damped(matrix: &[f64], out: &mut [f64]) -> u64
     ensures { Outcomes.HasOutcome result out.new (Calls.factor_damped matrix.now out.old) }
@@ -44,22 +62,36 @@ pub fn factor_damped(matrix: &[f64], out: &mut [f64]) -> u64
         return outcomes::lengths();
     }
     let factor = PointBlockFactor::factor_damped(slices::whole(matrix));
-    outcomes::store_result(factor.map(packed), out)
+    outcomes::store_result(factor.map(packed_inverse), out)
 }
 
-/// The lone factor. out: inverse 6, rcond
+/// The factor with rcond of a point block at a damping: the inverse of the damped block, and the
+/// reciprocal condition number by it and the undamped one.
+///
+/// - `matrix` (9): by rows
+/// - `out` (7): packed inverse (6), rcond
+///
+/// Refuses: row 1, then row 3, then row 10.
+/// The formula: `point_block::PointBlockFactor::factor_with_rcond`.
 #[tactic(auto, unfolding(crate::specs::MatrixCalls::factor_with_rcond))]
 pub fn factor_new(matrix: &[f64], damping: f64, out: &mut [f64]) -> u64
-    ensures { Outcomes.HasOutcome result out.new (Calls.factor_with_rcond matrix.now damping out.old) }
+    ensures { Outcomes.HasOutcome result out.new
+        (Calls.factor_with_rcond matrix.now damping out.old) }
 {
     if matrix.len() != 9 || out.len() != 7 {
         return outcomes::lengths();
     }
-    let lone = PointBlockFactor::factor_with_rcond(slices::whole(matrix), damping);
-    outcomes::store_result(lone.map(factor_numbers), out)
+    let factor = PointBlockFactor::factor_with_rcond(slices::whole(matrix), damping);
+    outcomes::store_result(factor.map(factor_numbers), out)
 }
 
-/// The inverse times a vector. inverse: 6; x: 3; out: 3
+/// A packed inverse times a vector.
+///
+/// - `inverse` (6): packed
+/// - `x` (3), `out` (3)
+///
+/// Refuses: row 1.
+/// The formula: `point_block::PointBlockFactor::solve`.
 #[tactic(auto, unfolding(crate::specs::MatrixCalls::factor_solve))]
 pub fn factor_solve(inverse: &[f64], x: &[f64], out: &mut [f64]) -> u64
     ensures { Outcomes.HasOutcome result out.new (Calls.factor_solve inverse.now x.now out.old) }
@@ -73,7 +105,14 @@ pub fn factor_solve(inverse: &[f64], x: &[f64], out: &mut [f64]) -> u64
     outcomes::store_result(Ok(factor.solve(slices::whole(x))), out)
 }
 
-/// The reciprocal condition number. inverse: 6; matrix: 9; out: 1
+/// The reciprocal condition number of a matrix by its packed inverse, in the infinity norm.
+///
+/// - `inverse` (6): packed
+/// - `matrix` (9): by rows
+/// - `out` (1)
+///
+/// Refuses: row 1.
+/// The formula: `point_block::PointBlockFactor::reciprocal_condition_number`.
 #[tactic(auto, unfolding(crate::specs::MatrixCalls::reciprocal_condition_number))]
 pub fn reciprocal_condition_number(inverse: &[f64], matrix: &[f64], out: &mut [f64]) -> u64
     ensures { Outcomes.HasOutcome result out.new
@@ -89,7 +128,13 @@ pub fn reciprocal_condition_number(inverse: &[f64], matrix: &[f64], out: &mut [f
     outcomes::store_result(Ok([rcond]), out)
 }
 
-/// The solution of five equations. a: 25 numbers, row by row; b: 5; out: 5
+/// The solution x of the five equations a · x = b, by Cholesky's method on the lower triangle of a.
+///
+/// - `a` (25): by rows
+/// - `b` (5), `out` (5)
+///
+/// Refuses: row 1, then row 11.
+/// The formula: `solver::solve_positive_definite`.
 #[tactic(auto, unfolding(crate::specs::MatrixCalls::solve_positive_definite))]
 pub fn solve_positive_definite(a: &[f64], b: &[f64], out: &mut [f64]) -> u64
     ensures { Outcomes.HasOutcome result out.new
@@ -102,14 +147,14 @@ pub fn solve_positive_definite(a: &[f64], b: &[f64], out: &mut [f64]) -> u64
     outcomes::store_result(x, out)
 }
 
-// With a closure in its place the proof did not close.
-fn packed(factor: PointBlockFactor) -> [f64; 6]
+// A function of its own, since the proof of its call closes with no closure in its place
+fn packed_inverse(factor: PointBlockFactor) -> [f64; 6]
     ensures { result ≡ factor.inverse }
 {
     factor.inverse
 }
 
-// Inverse and rcond
+// The packed inverse, then rcond
 fn factor_numbers(f: ConditionedFactor) -> [f64; 7]
     ensures { result ≡ Calls.factor_numbers f }
 {

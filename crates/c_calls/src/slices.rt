@@ -1,11 +1,11 @@
-// Lent slices as small arrays, and values copied to one.
+//! Lent slices as small arrays, and values copied into one.
 
 ghost use Rattle.std.specs.Prelude.{◌≡◌, ◌+◌, ◌≤◌, length};
 ghost use Rattle.c_calls.specs.Slices as Slices;
 
 use std::array;
 
-// Copies the values to `out` from `start` on.
+// Copies the values into `out` from `start` on.
 pub(crate) fn copy(values: &[f64], start: usize, out: &mut [f64])
     requires { start + length values.now ≤ length out.old }
     ensures { out.new ≡ Slices.put values.now start out.old }
@@ -13,7 +13,7 @@ pub(crate) fn copy(values: &[f64], start: usize, out: &mut [f64])
     out[start..start + values.len()].copy_from_slice(values);
 }
 
-// All numbers of x
+// All N numbers of x
 pub(crate) fn whole<const N: usize>(x: &[f64]) -> [f64; N]
     requires { length x.now ≡ N }
     ensures { result ≡ x.now }

@@ -1,5 +1,5 @@
-// The calls of the C interface for one whole step of the two-view problem, and the limit of the
-// pose step: `pixel_step` exports them.
+//! The calls of the C interface for one whole step of the two-view problem, and for the limit of
+//! the pose step (docs/SPECIFICATION.md, "C interface"). `pixel_step` exports them.
 
 ghost use Rattle.std.specs.Prelude.{◌≡◌};
 ghost use Rattle.problem.specs.Problem as Problems;
@@ -11,8 +11,19 @@ use crate::{layout, outcomes, slices};
 use optimizer::{StepResult, pose_step};
 use problem::correspondences::Problem;
 
-/// One whole step. For n points: points and room 3n, views 2n each, inverse inverse_standard_deviations n; rig: 29;
-/// out: 12; weak: 1. C hands the lists over one by one.
+/// One whole step of n points: the step of the pose, limited, and the step of each point.
+///
+/// - `points` (3n): x, y, z of each point, in the frame of camera 1
+/// - `view1`, `view2` (2n): x, y of each observation
+/// - `inverse_standard_deviations` (n)
+/// - `rig` (29): as for `linearize_point`
+/// - `room` (3n): the step of each point, in units of the baseline
+/// - `out` (12): pose step (5), cost, squared residual, gradient norm, minimum rcond, RMS of the
+///   point steps, point damping norm, predicted reduction
+/// - `weak` (1): weak point count
+///
+/// Refuses: rows 1 to 11, in this order.
+/// The formula: `optimizer::step`.
 #[tactic(auto, unfolding(crate::specs::StepCalls::step, crate::specs::Outcomes::code))]
 pub fn step<'a>(
     points: &[f64],
@@ -49,7 +60,12 @@ pub fn step<'a>(
     0
 }
 
-/// The limited step. x: 5; out: 5
+/// A step of the pose, limited to 0.5 in rotation and in translation.
+///
+/// - `x` (5), `out` (5): rotation (3), translation (2)
+///
+/// Refuses: row 1.
+/// The formula: `optimizer::pose_step::limit_pose_step`.
 #[tactic(auto, unfolding(crate::specs::StepCalls::limit_pose_step))]
 pub fn limit_pose_step(x: &[f64], out: &mut [f64]) -> u64
     ensures { Outcomes.HasOutcome result out.new (Calls.limit_pose_step x.now out.old) }

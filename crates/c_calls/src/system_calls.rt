@@ -1,5 +1,5 @@
-// The calls of the C interface on a lent system: 45 numbers, and beside them the weak count, the
-// block count and the flag. `pixel_step` exports them.
+//! The calls of the C interface on a lent system: 45 numbers, and beside them the weak point count,
+//! the block count and the flag (docs/SPECIFICATION.md, "C interface"). `pixel_step` exports them.
 
 ghost use Rattle.std.specs.Prelude.{[], ◌∷◌, ◌≡◌, length};
 ghost use Rattle.c_calls.specs.Outcomes as Outcomes;
@@ -10,7 +10,14 @@ use crate::{layout, outcomes, slices};
 use refusal::Refusal;
 use schur::reduced_system::ReducedSystem;
 
-/// A new system in lent memory
+/// A new system, written into lent memory.
+///
+/// - `system` (45): Hessian (25), gradient (5), cost, squared residual, full pose gradient (5),
+///   pose diagonal (5), point model reduction, scaled point gradient norm, minimum rcond
+/// - `counts` (3): weak point count, block count, flag
+///
+/// Refuses: row 1.
+/// The formula: `schur::reduced_system::ReducedSystem::new`.
 #[tactic(auto, unfolding(crate::specs::SystemCalls::new_system))]
 pub fn system_new(system: &mut [f64], counts: &mut [u16]) -> u64
     ensures { Calls.HasSystemOutcome result system.new counts.new
@@ -19,10 +26,16 @@ pub fn system_new(system: &mut [f64], counts: &mut [u16]) -> u64
     if system.len() != 45 || counts.len() != 3 {
         return outcomes::lengths();
     }
-    answer(Ok(ReducedSystem::new()), system, counts)
+    store_system(Ok(ReducedSystem::new()), system, counts)
 }
 
-/// The lent system with a block taken in
+/// The lent system takes in a block at a damping: the Schur complement of its point.
+///
+/// - `system` (45), `counts` (3): laid out as by `system_new`
+/// - `block` (59): laid out as by `linearize_point`
+///
+/// Refuses: row 1, then row 3, then row 12, then row 13.
+/// The formula: `schur::add`.
 #[tactic(auto, unfolding(crate::specs::SystemCalls::add))]
 pub fn system_add(system: &mut [f64], counts: &mut [u16], block: &[f64], damping: f64) -> u64
     ensures { Calls.HasSystemOutcome result system.new counts.new
@@ -32,11 +45,16 @@ pub fn system_add(system: &mut [f64], counts: &mut [u16], block: &[f64], damping
         return outcomes::lengths();
     }
     let s = layout::system(system, counts);
-    let added = schur::add(s, layout::block(block), damping);
-    answer(added, system, counts)
+    let next = schur::add(s, layout::block(block), damping);
+    store_system(next, system, counts)
 }
 
-/// The lent system with the damping added to the diagonal of its pose
+/// The lent system with the damping added to the diagonal of its Hessian.
+///
+/// - `system` (45), `counts` (3): laid out as by `system_new`
+///
+/// Refuses: row 1, then row 3.
+/// The formula: `ReducedSystem::finish_damping` of `schur`.
 #[tactic(auto, unfolding(crate::specs::SystemCalls::finish_damping))]
 pub fn system_finish_damping(system: &mut [f64], counts: &mut [u16], damping: f64) -> u64
     ensures { Calls.HasSystemOutcome result system.new counts.new
@@ -46,11 +64,17 @@ pub fn system_finish_damping(system: &mut [f64], counts: &mut [u16], damping: f6
         return outcomes::lengths();
     }
     let s = layout::system(system, counts);
-    let finished = s.finish_damping(damping);
-    answer(finished, system, counts)
+    let next = s.finish_damping(damping);
+    store_system(next, system, counts)
 }
 
-/// Whether every block factored and the equations are finite. out: 0 or 1
+/// Whether the flag is true, and gradient and Hessian are finite.
+///
+/// - `system` (45), `counts` (3): laid out as by `system_new`
+/// - `out` (1): 1 or 0
+///
+/// Refuses: row 1.
+/// The formula: `ReducedSystem::is_valid` of `schur`.
 #[tactic(auto, unfolding(crate::specs::SystemCalls::is_valid, crate::specs::Outcomes::code))]
 pub fn system_is_valid(system: &[f64], counts: &[u16], out: &mut [u16]) -> u64
     ensures { Outcomes.HasOutcome result out.new
@@ -64,7 +88,13 @@ pub fn system_is_valid(system: &[f64], counts: &[u16], out: &mut [u16]) -> u64
     0
 }
 
-/// The largest scaled gradient entry of all points and of the pose. out: 1
+/// The largest scaled gradient entry, of the points and of the pose.
+///
+/// - `system` (45), `counts` (3): laid out as by `system_new`
+/// - `out` (1)
+///
+/// Refuses: row 1.
+/// The formula: `ReducedSystem::scaled_gradient_inf_norm` of `schur`.
 #[tactic(auto, unfolding(crate::specs::SystemCalls::gradient_inf_norm))]
 pub fn system_scaled_gradient_inf_norm(system: &[f64], counts: &[u16], out: &mut [f64]) -> u64
     ensures { Outcomes.HasOutcome result out.new
@@ -77,7 +107,14 @@ pub fn system_scaled_gradient_inf_norm(system: &[f64], counts: &[u16], out: &mut
     outcomes::store_result(Ok([s.scaled_gradient_inf_norm()]), out)
 }
 
-/// What a step of the pose is predicted to gain. step: 5; out: 1
+/// The reduction of the cost that the quadratic model predicts for a step of the pose.
+///
+/// - `system` (45), `counts` (3): laid out as by `system_new`
+/// - `step` (5): rotation (3), translation (2)
+/// - `out` (1)
+///
+/// Refuses: row 1, then row 3.
+/// The formula: `ReducedSystem::predicted_reduction` of `schur`.
 #[tactic(auto, unfolding(crate::specs::SystemCalls::predicted_reduction))]
 pub fn system_predicted_reduction(
     system: &[f64],
@@ -88,31 +125,33 @@ pub fn system_predicted_reduction(
     out: &mut [f64],
 ) -> u64
     ensures { Outcomes.HasOutcome result out.new
-        (Calls.predicted_reduction system.now counts.now step.now damping point_damping_norm out.old) }
+        (Calls.predicted_reduction system.now counts.now step.now damping point_damping_norm
+        out.old) }
 {
     if system.len() != 45 || counts.len() != 3 || step.len() != 5 || out.len() != 1 {
         return outcomes::lengths();
     }
     let s = layout::system(system, counts);
-    let predicted = s.predicted_reduction(slices::whole(step), damping, point_damping_norm);
-    outcomes::store_result(predicted.map(alone), out)
+    let reduction = s.predicted_reduction(slices::whole(step), damping, point_damping_norm);
+    outcomes::store_result(reduction.map(one_number), out)
 }
 
-// One number as an array: with a closure in its place the proof did not close
-fn alone(x: f64) -> [f64; 1]
+// One number as an array: a function of its own, since the proof of its call closes with no closure
+// in its place
+fn one_number(x: f64) -> [f64; 1]
     ensures { result ≡ x ∷ [] }
 {
     [x]
 }
 
-// Stores the system where nothing was refused, and answers 0 or the refusal's code.
+// Stores the next system, and returns 0; beside a refusal stores nothing, and returns its code.
 #[tactic(auto, unfolding(crate::specs::Outcomes::code, crate::specs::LayoutNumbers::system_counts))]
-fn answer(answered: Result<ReducedSystem, Refusal>, system: &mut [f64], counts: &mut [u16]) -> u64
+fn store_system(next: Result<ReducedSystem, Refusal>, system: &mut [f64], counts: &mut [u16]) -> u64
     requires { (length system.old ≡ 45) × (length counts.old ≡ 3) }
     ensures { Calls.HasSystemOutcome result system.new counts.new
-        (Calls.system_outcome (Calls.system_memory system.old counts.old) answered) }
+        (Calls.system_outcome (Calls.system_memory system.old counts.old) next) }
 {
-    let next = match answered {
+    let next = match next {
         Ok(next) => next,
         Err(refusal) => return outcomes::code(refusal),
     };
@@ -121,6 +160,7 @@ fn answer(answered: Result<ReducedSystem, Refusal>, system: &mut [f64], counts: 
     0
 }
 
+// A flag as it is written
 fn flag(b: bool) -> u16
     ensures { result ≡ LayoutNumbers.flag b }
 {

@@ -1,5 +1,4 @@
--- Every figure that document 01 marks ● is what the definitions give: antt computes each row.
--- Assumes nothing.
+-- Every figure of the table is what the definitions give: antt computes each row.
 use mathlib.Core.Path.{refl}
 use lib.Ieee.{neg, add, sub, mul, div, lt, eq, le, is_nan, of_bits, size, units}
 use Rattle.std.specs.Float.{float_is_finite, is_sign_negative, float_with_sign}
@@ -18,4 +17,4 @@ use Rattle.figures.specs.Table.{done, ◌and◌, EveryFigureHolds}
 pub every_figure_holds : EveryFigureHolds
 unfolding neg add sub mul div lt eq le is_nan of_bits size units is_sign_negative float_is_finite float_with_sign magnitude max sqrt is_in_front residual_and_jacobian all_finite pixel_projection largest_diagonal damping_diagonal_of damping_diagonal with_added_diagonal damped_matrix scale_of cholesky_of has_valid_pivots inverse_of inverse_by invert factor_damped infinity_norm inverse_matrix reciprocal_condition_number FactorWithRcond.factor is_valid_damping FactorWithRcond.factor_with_rcond limit_pose_step
 every_figure_holds =
-    refl and refl and refl and refl and refl and refl and refl and refl and refl and refl and refl and refl and refl and refl and refl and refl and done
+    refl and refl and refl and refl and refl and refl and refl and refl and refl and refl and refl and refl and refl and refl and refl and refl and refl and refl and done

@@ -1,2 +1,2 @@
--- Document 01, "Bench figures".
+-- Figures worked out by hand (docs/SPECIFICATION.md, "Worked figures").
 pub mod Table

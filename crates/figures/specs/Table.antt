@@ -1,6 +1,8 @@
--- The figures that document 01 marks ●, as one table, and what a row of it says of the
--- definitions that the contracts cite. `table::every_figure_holds` promises every row.
-use Rattle.std.specs.Prelude.{ℕ, ◌≡◌, Bool, true, false, List, [], ◌∷◌, Float, Result, Ok, Err, is_ok}
+-- Figures worked out by hand: docs/SPECIFICATION.md, "Worked figures". They stand in one table, and
+-- a row of it holds where the definitions that the contracts cite give that figure.
+-- `table::every_figure_holds` promises every row.
+use Rattle.std.specs.Prelude.{ℕ, ◌≡◌, Bool, true, false, List, [], ◌∷◌, Float}
+use Rattle.std.specs.Prelude.{Result, Ok, Err, is_ok}
 use Rattle.std.specs.Float.{binary64}
 use Rattle.std.specs.Float.Ieee.{of_bits}
 use Rattle.numerics.specs.Binary64.{zero, neg_zero, half, one}
@@ -16,6 +18,7 @@ use Rattle.point_block.specs.FactorWithRcond.{factor, factor_with_rcond}
 use Rattle.point_block.specs.Condition.{reciprocal_condition_number, is_weak}
 use Rattle.optimizer.specs.PoseStep.{limit_pose_step}
 
+-- the binary64 with these bits
 abbrev pub bits : ℕ → Float
 bits = of_bits binary64
 
@@ -27,43 +30,47 @@ camera fx fy cx cy skew = record { fx = fx; fy = fy; cx = cx; cy = cy; skew = sk
 abbrev pub diagonal : Float → Float → Float → List Float
 diagonal a b c = a ∷ zero ∷ zero ∷ zero ∷ b ∷ zero ∷ zero ∷ zero ∷ c ∷ []
 
--- the rcond of the lone factor at damping 0
-abbrev pub rcond_of : List Float → Result Float Refusal
-rcond_of m = map_ok (λ (f : ConditionedFactor). f.rcond) (factor_with_rcond m zero)
+-- the rcond of a block that factors at a damping, or the refusal
+abbrev pub rcond_of : List Float → Float → Result Float Refusal
+rcond_of m damping = map_ok (λ (f : ConditionedFactor). f.rcond) (factor_with_rcond m damping)
 
--- whether the lone factor is there at damping 0, and the weak test of `add`
+-- whether a block factors at damping 0, and whether `add` counts it weak
 abbrev pub weak_of : List Float → Bool × Result Bool Refusal
-weak_of m = (is_ok (factor_with_rcond m zero), map_ok (λ (f : PointBlockFactor). is_weak (reciprocal_condition_number f.inverse m)) (factor m zero))
+weak_of m =
+    let is_weak_by = λ (f : PointBlockFactor). is_weak (reciprocal_condition_number f.inverse m) in
+    (is_ok (factor_with_rcond m zero), map_ok is_weak_by (factor m zero))
 
--- a figure: what is asked, and the answer
+-- a figure: what is put in, and what has to come out
 pub data Row : Type 0 where
   -- the root of a value is another
   root : Float → Float → Row
   -- camera, observation and point give a residual and a Jacobian, by rows
-  projected : PinholeCamera → List Float → List Float → List Float → List Float → Row
+  projection : PinholeCamera → List Float → List Float → List Float → List Float → Row
   -- camera, observation and point are refused, or accepted
-  not_projected accepted : PinholeCamera → List Float → List Float → Row
-  -- a block is refused at a damping, or factors
-  refused factors : List Float → Float → Row
-  -- at damping 0 a block factors, with this rcond
-  rcond : List Float → Float → Row
+  projection_refused projection_accepted : PinholeCamera → List Float → List Float → Row
+  -- a block does not factor at a damping
+  factor_refused : List Float → Float → Row
+  -- a block factors at a damping, with this rcond
+  rcond : List Float → Float → Float → Row
   -- at damping 0 a block factors, and is weak or not
-  weak not_weak : List Float → Row
+  block_is_weak block_is_not_weak : List Float → Row
   -- a pose step is limited to another
-  limited : List Float → List Float → Row
+  limit : List Float → List Float → Row
 
-abbrev pub Says : Row → Type 0
-Says (root x r) = sqrt x ≡ r
-Says (projected c seen point r j) = pixel_projection c seen point ≡ Ok (record { residual = r; jacobian = j })
-Says (not_projected c seen point) = pixel_projection c seen point ≡ Err NotProjectable
-Says (accepted c seen point) = is_ok (pixel_projection c seen point) ≡ true
-Says (refused m damping) = factor_with_rcond m damping ≡ Err NotFactored
-Says (factors m damping) = is_ok (factor_with_rcond m damping) ≡ true
-Says (rcond m r) = rcond_of m ≡ Ok r
-Says (weak m) = weak_of m ≡ (true, Ok true)
-Says (not_weak m) = weak_of m ≡ (true, Ok false)
-Says (limited x y) = limit_pose_step x ≡ y
+-- the definitions give the figure of the row
+abbrev pub RowHolds : Row → Type 0
+RowHolds (root x r) = sqrt x ≡ r
+RowHolds (projection c seen point r j) =
+    pixel_projection c seen point ≡ Ok (record { residual = r; jacobian = j })
+RowHolds (projection_refused c seen point) = pixel_projection c seen point ≡ Err NotProjectable
+RowHolds (projection_accepted c seen point) = is_ok (pixel_projection c seen point) ≡ true
+RowHolds (factor_refused m damping) = factor_with_rcond m damping ≡ Err NotFactored
+RowHolds (rcond m damping r) = rcond_of m damping ≡ Ok r
+RowHolds (block_is_weak m) = weak_of m ≡ (true, Ok true)
+RowHolds (block_is_not_weak m) = weak_of m ≡ (true, Ok false)
+RowHolds (limit x y) = limit_pose_step x ≡ y
 
+-- the figures, in the order of the specification
 abbrev pub table : List Row
 table =
     -- root of 4 is 2
@@ -74,39 +81,43 @@ table =
     ∷ root neg_zero neg_zero
     -- camera (2, 2, 1, 1, 0), observation (1.5, 1), point (1, 2, 4): residual (0, 1),
     -- Jacobian rows (0.5, 0, −0.125), (0, 0.5, −0.25)
-    ∷ projected (camera (bits 0x4000_0000_0000_0000) (bits 0x4000_0000_0000_0000) one one zero)
+    ∷ projection (camera (bits 0x4000_0000_0000_0000) (bits 0x4000_0000_0000_0000) one one zero)
     (bits 0x3ff8_0000_0000_0000 ∷ one ∷ [])
     (one ∷ bits 0x4000_0000_0000_0000 ∷ bits 0x4010_0000_0000_0000 ∷ [])
     (zero ∷ one ∷ [])
     (half ∷ zero ∷ bits 0xbfc0_0000_0000_0000 ∷ zero ∷ half ∷ bits 0xbfd0_0000_0000_0000 ∷ [])
     -- camera (1, 1, 0, 0, 0), observation (0, 0): point (1, 0, 2^-46) refused
-    ∷ not_projected (camera one one zero zero zero) (zero ∷ zero ∷ []) (one ∷ zero ∷ bits 0x3d10_0000_0000_0000 ∷ [])
-    -- next depth above it accepted
-    ∷ accepted (camera one one zero zero zero) (zero ∷ zero ∷ []) (one ∷ zero ∷ bits 0x3d10_0000_0000_0001 ∷ [])
+    ∷ projection_refused (camera one one zero zero zero) (zero ∷ zero ∷ [])
+    (one ∷ zero ∷ bits 0x3d10_0000_0000_0000 ∷ [])
+    -- the same with the next binary64 above 2^-46 as depth: accepted
+    ∷ projection_accepted (camera one one zero zero zero) (zero ∷ zero ∷ [])
+    (one ∷ zero ∷ bits 0x3d10_0000_0000_0001 ∷ [])
     -- (4, 1, 1) rcond 0.25
-    ∷ rcond (diagonal (bits 0x4010_0000_0000_0000) one one) (bits 0x3fd0_0000_0000_0000)
+    ∷ rcond (diagonal (bits 0x4010_0000_0000_0000) one one) zero (bits 0x3fd0_0000_0000_0000)
     -- (1, 1, 2^-46) factors, rcond 2^-46, weak
-    ∷ rcond (diagonal one one (bits 0x3d10_0000_0000_0000)) (bits 0x3d10_0000_0000_0000)
-    ∷ weak (diagonal one one (bits 0x3d10_0000_0000_0000))
-    -- (1, 1, 2^-44) not weak
-    ∷ not_weak (diagonal one one (bits 0x3d30_0000_0000_0000))
+    ∷ rcond (diagonal one one (bits 0x3d10_0000_0000_0000)) zero (bits 0x3d10_0000_0000_0000)
+    ∷ block_is_weak (diagonal one one (bits 0x3d10_0000_0000_0000))
+    -- (1, 1, 2^-44) factors, rcond 2^-44, not weak
+    ∷ rcond (diagonal one one (bits 0x3d30_0000_0000_0000)) zero (bits 0x3d30_0000_0000_0000)
+    ∷ block_is_not_weak (diagonal one one (bits 0x3d30_0000_0000_0000))
     -- (1, 1, 2^-92) refused
-    ∷ refused (diagonal one one (bits 0x3a30_0000_0000_0000)) zero
-    -- (1, 1, 2^-91) factors
-    ∷ factors (diagonal one one (bits 0x3a40_0000_0000_0000)) zero
-    -- diagonal (1, 1, 0): refused at damping 0, factors at 1
-    ∷ refused (diagonal one one zero) zero
-    ∷ factors (diagonal one one zero) one
+    ∷ factor_refused (diagonal one one (bits 0x3a30_0000_0000_0000)) zero
+    -- (1, 1, 2^-91) factors, rcond 3A40000000000001, weak
+    ∷ rcond (diagonal one one (bits 0x3a40_0000_0000_0000)) zero (bits 0x3a40_0000_0000_0001)
+    ∷ block_is_weak (diagonal one one (bits 0x3a40_0000_0000_0000))
+    -- (1, 1, 0) refused at damping 0; at damping 1 it factors, rcond 2^-46
+    ∷ factor_refused (diagonal one one zero) zero
+    ∷ rcond (diagonal one one zero) one (bits 0x3d10_0000_0000_0000)
     -- pose step (1, 0, 0, 0, 0) limited to (0.5, 0, 0, 0, 0); (0.5, 0, 0, 0, 0) unchanged
-    ∷ limited (one ∷ zero ∷ zero ∷ zero ∷ zero ∷ []) (half ∷ zero ∷ zero ∷ zero ∷ zero ∷ [])
-    ∷ limited (half ∷ zero ∷ zero ∷ zero ∷ zero ∷ []) (half ∷ zero ∷ zero ∷ zero ∷ zero ∷ [])
+    ∷ limit (one ∷ zero ∷ zero ∷ zero ∷ zero ∷ []) (half ∷ zero ∷ zero ∷ zero ∷ zero ∷ [])
+    ∷ limit (half ∷ zero ∷ zero ∷ zero ∷ zero ∷ []) (half ∷ zero ∷ zero ∷ zero ∷ zero ∷ [])
     ∷ []
 
 infixr 60 ◌and◌
 -- every row of a list holds
 pub data Every : List Row → Type 0 where
   done : Every []
-  ◌and◌ : {r : Row} {rs : List Row} → Says r → Every rs → Every (r ∷ rs)
+  ◌and◌ : {r : Row} {rs : List Row} → RowHolds r → Every rs → Every (r ∷ rs)
 
 -- every row of the table holds
 abbrev pub EveryFigureHolds : Type 0

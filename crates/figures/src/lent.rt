@@ -13,12 +13,14 @@ use refusal::Refusal;
 use schur::reduced_system::ReducedSystem;
 use std::io;
 
+// The system that each form leaves
 #[derive(Clone, Copy)]
 struct Both {
     lent: ReducedSystem,
     by_value: ReducedSystem,
 }
 
+/// Prints the refusals of seven adds by both forms, then both systems.
 pub fn print(rt: &impl Print) -> io::Result<()> {
     let adds = [
         ([0.0, 0.0, 2.0], 0.0),
@@ -35,7 +37,7 @@ pub fn print(rt: &impl Print) -> io::Result<()> {
     };
     for (point, damping) in adds {
         match block(point) {
-            Ok(local) => both = added(rt, both, local, damping)?,
+            Ok(local) => both = add_to_both(rt, both, local, damping)?,
             Err(refusal) => println!(rt; "{refusal}")?,
         }
     }
@@ -73,30 +75,38 @@ fn block(point: [f64; 3]) -> Result<LocalLinearization, Refusal> {
     linearization::linearize_point(&rig, correspondence)
 }
 
-// A line: the two refusals' numbers, 0 where there is none
-fn added(rt: &impl Print, both: Both, local: LocalLinearization, damping: f64) -> io::Result<Both> {
-    let (lent, one) = added_in_place(both.lent, local, damping);
+// Adds a block to both systems, and prints a line: the two refusals' numbers, 0 where there is
+// none.
+fn add_to_both(
+    rt: &impl Print,
+    both: Both,
+    local: LocalLinearization,
+    damping: f64,
+) -> io::Result<Both> {
+    let (lent, one) = add_in_place(both.lent, local, damping);
     let two = schur::add(both.by_value, local, damping);
-    pair(rt, "refusal", row(one.err()), row(two.err()))?;
+    print_pair(rt, "refusal", row(one.err()), row(two.err()))?;
     Ok(Both {
         lent,
         by_value: two.unwrap_or(both.by_value),
     })
 }
 
-// Lends the system.
-fn added_in_place(
+// The form of `add` that changes a lent system, as a function of the system
+fn add_in_place(
     mut system: ReducedSystem,
     local: LocalLinearization,
     damping: f64,
 ) -> (ReducedSystem, Result<(), Refusal>)
-    ensures system { result.0 ≡ ReducedAdd.system_after system (ReducedAdd.add system local damping) }
+    ensures system { result.0
+        ≡ ReducedAdd.system_after system (ReducedAdd.add system local damping) }
     ensures refusal { result_err result.1 ≡ result_err (ReducedAdd.add system local damping) }
 {
-    let answered = schur::add_to(&mut system, local, damping);
-    (system, answered)
+    let outcome = schur::add_to(&mut system, local, damping);
+    (system, outcome)
 }
 
+// The number of a refusal's row, 0 of none
 fn row(refusal: Option<Refusal>) -> u64 {
     match refusal {
         Some(refusal) => u64::from(refusal.row().number),
@@ -107,69 +117,70 @@ fn row(refusal: Option<Refusal>) -> u64 {
 fn print_both(rt: &impl Print, both: Both) -> io::Result<()> {
     let a = both.lent;
     let b = both.by_value;
-    hessians(rt, a, b)?;
-    vectors(rt, a, b)?;
-    numbers(rt, "cost", a.cost, b.cost)?;
-    numbers(
+    print_hessians(rt, a, b)?;
+    print_vectors(rt, a, b)?;
+    print_numbers(rt, "cost", a.cost, b.cost)?;
+    print_numbers(
         rt,
         "squared residual",
         a.squared_residual,
         b.squared_residual,
     )?;
-    numbers(
+    print_numbers(
         rt,
         "point reduction",
         a.point_model_reduction,
         b.point_model_reduction,
     )?;
-    numbers(
+    print_numbers(
         rt,
         "point gradient norm",
         a.scaled_point_gradient_inf_norm,
         b.scaled_point_gradient_inf_norm,
     )?;
-    numbers(
+    print_numbers(
         rt,
         "smallest rcond",
         a.minimum_point_rcond,
         b.minimum_point_rcond,
     )?;
-    pair(
+    print_pair(
         rt,
         "weak points",
         a.weak_point_count as u64,
         b.weak_point_count as u64,
     )?;
-    pair(rt, "blocks", a.block_count as u64, b.block_count as u64)?;
-    pair(rt, "valid", a.valid as u64, b.valid as u64)
+    print_pair(rt, "blocks", a.block_count as u64, b.block_count as u64)?;
+    print_pair(rt, "valid", a.valid as u64, b.valid as u64)
 }
 
-fn hessians(rt: &impl Print, a: ReducedSystem, b: ReducedSystem) -> io::Result<()> {
+fn print_hessians(rt: &impl Print, a: ReducedSystem, b: ReducedSystem) -> io::Result<()> {
     for (x, y) in a.hessian.iter().zip(&b.hessian) {
-        numbers(rt, "hessian", *x, *y)?;
+        print_numbers(rt, "hessian", *x, *y)?;
     }
     Ok(())
 }
 
-fn vectors(rt: &impl Print, a: ReducedSystem, b: ReducedSystem) -> io::Result<()> {
-    // by index, as three pairs of lists are printed entry by entry
+fn print_vectors(rt: &impl Print, a: ReducedSystem, b: ReducedSystem) -> io::Result<()> {
+    // by index, as three pairs of arrays are printed entry by entry
     for i in 0..5 {
-        numbers(rt, "gradient", a.gradient[i], b.gradient[i])?;
-        numbers(
+        print_numbers(rt, "gradient", a.gradient[i], b.gradient[i])?;
+        print_numbers(
             rt,
             "full pose gradient",
             a.full_pose_gradient[i],
             b.full_pose_gradient[i],
         )?;
-        numbers(rt, "pose diagonal", a.pose_diagonal[i], b.pose_diagonal[i])?;
+        print_numbers(rt, "pose diagonal", a.pose_diagonal[i], b.pose_diagonal[i])?;
     }
     Ok(())
 }
 
-fn numbers(rt: &impl Print, name: &str, a: f64, b: f64) -> io::Result<()> {
-    pair(rt, name, numerics::to_bits(a), numerics::to_bits(b))
+fn print_numbers(rt: &impl Print, name: &str, a: f64, b: f64) -> io::Result<()> {
+    print_pair(rt, name, numerics::to_bits(a), numerics::to_bits(b))
 }
 
-fn pair(rt: &impl Print, name: &str, a: u64, b: u64) -> io::Result<()> {
+// A line: a name, the figure of the lent system, and that of the system by value
+fn print_pair(rt: &impl Print, name: &str, a: u64, b: u64) -> io::Result<()> {
     println!(rt; "{name} {a:016X} {b:016X}")
 }

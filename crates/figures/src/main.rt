@@ -1,6 +1,7 @@
-//! Prints figures, each on a line of its own and worked out by the proved code: first the named
-//! ones, then the root of each pattern that standard input lists. What they have to be is in
-//! `stdout` beside this folder; `tools/root-vectors` says where the roots come from.
+//! Prints figures that are worked out by hand (docs/SPECIFICATION.md, "Worked figures"), each on a
+//! line of its own as the proved code gives it: first the named ones, then the root of each pattern
+//! that standard input lists. What they have to be is in `stdout` beside this folder;
+//! `tools/root-vectors` says where the roots come from.
 #![tactic(auto)]
 
 mod blocks;
@@ -21,9 +22,9 @@ fn main(rt: HostRuntime) -> io::Result<()> {
     let Ok(text) = str::from_utf8(&bytes[..n]) else {
         return Err(io::ErrorKind::InvalidData.into());
     };
-    show::named(&rt, "root of 4", root::sqrt(4.0))?;
-    show::named(&rt, "root of 2", root::sqrt(2.0))?;
-    show::named(&rt, "root of -0", root::sqrt(-0.0))?;
+    show::print_figure(&rt, "root of 4", root::sqrt(4.0))?;
+    show::print_figure(&rt, "root of 2", root::sqrt(2.0))?;
+    show::print_figure(&rt, "root of -0", root::sqrt(-0.0))?;
     projections::print(&rt)?;
     blocks::print(&rt)?;
     systems::print(&rt)?;

@@ -1,8 +1,9 @@
-// The root vectors.
+//! The roots of listed patterns (docs/SPECIFICATION.md, "Square root").
+
 use std::io;
 
-// A line for each line of text: `sqrt`, the pattern that the line is in hexadecimal, and the
-// pattern of its root
+/// Prints a line for each line of text: `sqrt`, the pattern that the line is in hexadecimal, and
+/// the pattern of its root.
 pub fn print(rt: &impl Print, text: &str) -> io::Result<()> {
     for line in text.lines() {
         match u64::from_str_radix(line, 16) {

@@ -1,6 +1,7 @@
-// The figures of the whole step: the limit of the pose step, an example of each row, and any two
-// rows that follow
-// each other met at once, where the earlier one is given.
+//! The figures of the whole step: the limit of the pose step, an example of each row
+//! (docs/SPECIFICATION.md, "Refusals"), and any two rows that follow each other met at once, where
+//! the earlier one is given.
+
 ghost use Rattle.std.specs.Prelude.{◌≤◌};
 
 use linearization::views::RelativePose;
@@ -11,96 +12,107 @@ use projection::PinholeCamera;
 use refusal::Refusal;
 use std::io;
 
-// What is varied of five points at depth 1, seen without error by two cameras that stand one apart
+// What is varied of five points at depth 1, seen without error by two cameras at a distance of 1.
+// `x` and `depth` are those of point 0, `seen` is x of point 3 in view 2, and the inverse standard
+// deviation is that of point 2.
 #[derive(Clone, Copy)]
 struct Sample {
     x: f64,
     depth: f64,
     seen: f64,
-    deviation: f64,
+    inverse_standard_deviation: f64,
     focal: f64,
     translation_basis: f64,
     baseline: f64,
     damping: f64,
 }
 
+/// Prints the figures of the limit, then those of the whole step.
 pub fn print(rt: &impl Print) -> io::Result<()> {
-    limited(rt, "pose step (1, 0, 0, 0, 0) limited", 1.0)?;
-    limited(rt, "pose step (0.5, 0, 0, 0, 0) limited", 0.5)?;
-    stepped(rt, "step of a sound problem", sound(), 5, 10)?;
-    lengths(rt)?;
-    values(rt)?;
-    seen(rt)?;
-    equations(rt)
+    print_limited(rt, "pose step (1, 0, 0, 0, 0) limited", 1.0)?;
+    print_limited(rt, "pose step (0.5, 0, 0, 0, 0) limited", 0.5)?;
+    print_step(rt, "step of a sound problem", valid_sample(), 5, 10)?;
+    print_lengths(rt)?;
+    print_values(rt)?;
+    print_views(rt)?;
+    print_equations(rt)
 }
 
-fn limited(rt: &impl Print, name: &str, x: f64) -> io::Result<()> {
+// A line: the limited pose step of (x, 0, 0, 0, 0)
+fn print_limited(rt: &impl Print, name: &str, x: f64) -> io::Result<()> {
     let step = pose_step::limit_pose_step([x, 0.0, 0.0, 0.0, 0.0]);
     print!(rt; "{name}")?;
-    show::patterns(rt, &step)
+    show::print_patterns(rt, &step)
 }
 
 // Rows 1 and 2
-fn lengths(rt: &impl Print) -> io::Result<()> {
-    stepped(rt, "step, 9 numbers in view 1", sound(), 5, 9)?;
-    many(rt, "step, rows 1 and 2", 131071, 1.0)?;
-    many(rt, "step, 65,536 points", 131072, 1.0)?;
-    many(rt, "step, rows 2 and 3", 131072, -1.0)
+fn print_lengths(rt: &impl Print) -> io::Result<()> {
+    print_step(rt, "step, 9 numbers in view 1", valid_sample(), 5, 9)?;
+    print_step_of_many(rt, "step, rows 1 and 2", 131071, 1.0)?;
+    print_step_of_many(rt, "step, 65,536 points", 131072, 1.0)?;
+    print_step_of_many(rt, "step, rows 2 and 3", 131072, -1.0)
 }
 
 // Rows 3 to 6
-fn values(rt: &impl Print) -> io::Result<()> {
-    let mut p = sound();
+fn print_values(rt: &impl Print) -> io::Result<()> {
+    let mut p = valid_sample();
     p.damping = -1.0;
-    stepped(rt, "step, damping -1", p, 5, 10)?;
-    p.deviation = 0.0;
-    stepped(rt, "step, rows 3 and 4", p, 5, 10)?;
+    print_step(rt, "step, damping -1", p, 5, 10)?;
+    p.inverse_standard_deviation = 0.0;
+    print_step(rt, "step, rows 3 and 4", p, 5, 10)?;
     p.damping = 1.0;
-    stepped(rt, "step, inverse deviation 0 at index 2", p, 5, 10)?;
+    print_step(
+        rt,
+        "step, inverse standard deviation 0 at index 2",
+        p,
+        5,
+        10,
+    )?;
     p.baseline = numerics::RELATIVE_TOLERANCE;
-    stepped(rt, "step, rows 4 and 5", p, 5, 10)?;
-    p.deviation = 1.0;
-    stepped(rt, "step, baseline 2^-46", p, 5, 10)?;
+    print_step(rt, "step, rows 4 and 5", p, 5, 10)?;
+    p.inverse_standard_deviation = 1.0;
+    print_step(rt, "step, baseline 2^-46", p, 5, 10)?;
     p.x = f64::NAN;
-    stepped(rt, "step, rows 5 and 6", p, 5, 10)?;
+    print_step(rt, "step, rows 5 and 6", p, 5, 10)?;
     p.baseline = 1.0;
-    stepped(rt, "step, NaN at index 0", p, 5, 10)?;
-    stepped(rt, "step, rows 6 and 7", p, 4, 8)
+    print_step(rt, "step, NaN at index 0", p, 5, 10)?;
+    print_step(rt, "step, rows 6 and 7", p, 4, 8)
 }
 
 // Rows 7 to 9
-fn seen(rt: &impl Print) -> io::Result<()> {
-    let mut p = sound();
-    stepped(rt, "step, 4 points", p, 4, 8)?;
+fn print_views(rt: &impl Print) -> io::Result<()> {
+    let mut p = valid_sample();
+    print_step(rt, "step, 4 points", p, 4, 8)?;
     p.seen = numerics::from_bits(0x7FF0_0000_0000_0000);
-    stepped(rt, "step, rows 7 and 8", p, 4, 8)?;
-    stepped(rt, "step, infinity in view 2 at index 3", p, 5, 10)?;
+    print_step(rt, "step, rows 7 and 8", p, 4, 8)?;
+    print_step(rt, "step, infinity in view 2 at index 3", p, 5, 10)?;
     p.depth = 0.0;
-    stepped(rt, "step, rows 8 and 9", p, 5, 10)?;
+    print_step(rt, "step, rows 8 and 9", p, 5, 10)?;
     p.seen = 1.0;
-    stepped(rt, "step, point (0, 0, 0)", p, 5, 10)?;
+    print_step(rt, "step, point (0, 0, 0)", p, 5, 10)?;
     p.focal = 0.0;
-    stepped(rt, "step, rows 9 and 10", p, 5, 10)
+    print_step(rt, "step, rows 9 and 10", p, 5, 10)
 }
 
 // Rows 10 and 11
-fn equations(rt: &impl Print) -> io::Result<()> {
-    let mut p = sound();
+fn print_equations(rt: &impl Print) -> io::Result<()> {
+    let mut p = valid_sample();
     p.focal = 0.0;
-    stepped(rt, "step, blocks of zeros", p, 5, 10)?;
+    print_step(rt, "step, blocks of zeros", p, 5, 10)?;
     p.translation_basis = 0.0;
     p.damping = 0.0;
-    stepped(rt, "step, rows 10 and 11", p, 5, 10)?;
+    print_step(rt, "step, rows 10 and 11", p, 5, 10)?;
     p.focal = 1.0;
-    stepped(rt, "step, basis of zeros at damping 0", p, 5, 10)
+    print_step(rt, "step, basis of zeros at damping 0", p, 5, 10)
 }
 
-fn sound() -> Sample {
+// What nothing refuses
+fn valid_sample() -> Sample {
     Sample {
         x: 0.0,
         depth: 1.0,
         seen: 1.0,
-        deviation: 1.0,
+        inverse_standard_deviation: 1.0,
         focal: 1.0,
         translation_basis: 1.0,
         baseline: 1.0,
@@ -108,6 +120,7 @@ fn sound() -> Sample {
     }
 }
 
+// Two cameras of the sample's focal length, the second at x = 1
 fn rig(p: Sample) -> Rig {
     let camera = PinholeCamera {
         fx: p.focal,
@@ -129,8 +142,8 @@ fn rig(p: Sample) -> Rig {
     }
 }
 
-// The step of the first n points, with so many numbers of view 1
-fn stepped(rt: &impl Print, name: &str, p: Sample, n: usize, in_view1: usize) -> io::Result<()>
+// The line of the step of the first n points, with so many numbers of view 1
+fn print_step(rt: &impl Print, name: &str, p: Sample, n: usize, in_view1: usize) -> io::Result<()>
     requires { (n ≤ 5) × (in_view1 ≤ 10) }
 {
     let points = [
@@ -138,8 +151,8 @@ fn stepped(rt: &impl Print, name: &str, p: Sample, n: usize, in_view1: usize) ->
     ];
     let view1 = [0.0, 0.0, 1.0, 0.0, -1.0, 0.0, 0.0, 1.0, 0.0, -1.0];
     let view2 = [1.0, 0.0, 2.0, 0.0, 0.0, 0.0, p.seen, 1.0, 1.0, -1.0];
-    let inverse_standard_deviations = [1.0, 1.0, p.deviation, 1.0, 1.0];
-    let mut room = [0.0; 15];
+    let inverse_standard_deviations = [1.0, 1.0, p.inverse_standard_deviation, 1.0, 1.0];
+    let mut point_steps = [0.0; 15];
     let problem = Problem {
         points: &points[0..3 * n],
         view1: &view1[0..in_view1],
@@ -148,31 +161,39 @@ fn stepped(rt: &impl Print, name: &str, p: Sample, n: usize, in_view1: usize) ->
         rig: rig(p),
         damping: p.damping,
     };
-    show_step(rt, name, optimizer::step(&problem, &mut room[0..3 * n]))
+    print_outcome(
+        rt,
+        name,
+        optimizer::step(&problem, &mut point_steps[0..3 * n]),
+    )
 }
 
-// 65,536 points, and so many numbers in view 1
-fn many(rt: &impl Print, name: &str, in_view1: usize, damping: f64) -> io::Result<()>
+// The line of the step of 65,536 points, with so many numbers of view 1
+fn print_step_of_many(rt: &impl Print, name: &str, in_view1: usize, damping: f64) -> io::Result<()>
     requires { in_view1 ≤ 196608 }
 {
     let zeros = [0.0; 196608];
-    let mut room = [0.0; 196608];
+    let mut point_steps = [0.0; 196608];
     let problem = Problem {
         points: &zeros,
         view1: &zeros[0..in_view1],
         view2: &zeros[0..131072],
         inverse_standard_deviations: &zeros[0..65536],
-        rig: rig(sound()),
+        rig: rig(valid_sample()),
         damping,
     };
-    show_step(rt, name, optimizer::step(&problem, &mut room))
+    print_outcome(rt, name, optimizer::step(&problem, &mut point_steps))
 }
 
-// The refusal, or cost and squared residual
-fn show_step(rt: &impl Print, name: &str, done: Result<StepResult, Refusal>) -> io::Result<()> {
+// A line: cost and squared residual, or the refusal
+fn print_outcome(
+    rt: &impl Print,
+    name: &str,
+    outcome: Result<StepResult, Refusal>,
+) -> io::Result<()> {
     print!(rt; "{name}:")?;
-    match done {
-        Ok(step) => show::patterns(rt, &[step.cost, step.squared_residual]),
+    match outcome {
+        Ok(step) => show::print_patterns(rt, &[step.cost, step.squared_residual]),
         Err(refusal) => println!(rt; " {refusal}"),
     }
 }

@@ -1,4 +1,5 @@
-//! The table of figures that the definitions give.
+//! The table of the figures worked out by hand that are proved of the definitions
+//! (docs/SPECIFICATION.md, "Worked figures").
 
 ghost use Rattle.figures.specs.Table as Table;
 

@@ -1,4 +1,4 @@
--- The block maker: `linearize_point` of schur.rs.
+-- The block of a point: `linearize_point` of schur.rs.
 pub mod Accumulate
 pub mod Jacobians
 pub mod Loss

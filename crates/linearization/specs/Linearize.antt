@@ -1,5 +1,5 @@
--- `linearize_point` of schur.rs with `Loss::L2`, the block maker of document 01: both views or
--- their refusal, then the block.
+-- The block of a point, what it adds to the normal equations: `linearize_point` of schur.rs with
+-- `Loss::L2` (docs/SPECIFICATION.md, "Linearization").
 use Rattle.std.specs.Prelude.{List, Float, Result, Ok, is_ok}
 use Rattle.std.specs.Result.{result_and}
 use Rattle.numerics.specs.Binary64.{◌⊕◌, ◌⊗◌, zero}
@@ -16,9 +16,10 @@ use Rattle.linearization.specs.declared.views.View2.{View2}
 use Rattle.linearization.specs.declared.views.LinearizedViews.{LinearizedViews}
 use Rattle.linearization.specs.Loss.{norm, loss_cost}
 use Rattle.linearization.specs.Views.{views_of, check_views}
-use Rattle.linearization.specs.Accumulate.{pose_hessian, cross_hessian, point_hessian, pose_gradient, point_gradient}
+use Rattle.linearization.specs.Accumulate.{pose_hessian, cross_hessian, point_hessian}
+use Rattle.linearization.specs.Accumulate.{pose_gradient, point_gradient}
 
--- +0 everywhere: what stands for the block of a refused point
+-- +0 everywhere: what stands beside a refusal
 unfoldable pub zero_linearization : LocalLinearization
 zero_linearization = record {
   pose_hessian = zeros 25;
@@ -30,15 +31,15 @@ zero_linearization = record {
   squared_residual = zero;
 }
 
--- the block that was made, or +0 everywhere beside a refusal: the values of the answer
+-- the block, or +0 everywhere beside a refusal
 abbrev pub block_or_zeros : Result LocalLinearization Refusal → LocalLinearization
 block_or_zeros r = (outcome zero_linearization r).values
 
--- the pose's ten derivatives in view 1
+-- the two rows of view 1's pose Jacobian
 abbrev pub pose_rows : View1 → List Float
 pose_rows a = tabulate 10 (λ i. a.pose_zero)
 
--- what the step of a point needs of its block
+-- what the step of a point needs of its block, H_px, H_xx and g_x, from both views
 unfoldable pub terms : View1 → View2 → PointTerms
 terms a b = record {
   cross_hessian = cross_hessian (pose_rows a) a.point b.pose b.point;
@@ -46,6 +47,7 @@ terms a b = record {
   point_gradient = point_gradient a.point a.residual b.point b.residual;
 }
 
+-- the block of both views, with its cost and its squared residual
 unfoldable pub sums : LinearizedViews → Float → Float → LocalLinearization
 sums v cost squared =
     let a = v.first in
@@ -61,29 +63,32 @@ sums v cost squared =
       squared_residual = squared;
     }
 
--- cost and squared residual are added from +0
+-- That block, where both are summed from +0 over the views: the loss's cost of |r| · isd, with isd
+-- the inverse standard deviation, and |r|², which no weight is in.
 unfoldable pub block : LinearizedViews → Float → LocalLinearization
-block v inverse_standard_deviation =
+block v isd =
     let m = norm v.residual1 in
     let n = norm v.residual2 in
-    sums v (zero ⊕ loss_cost (m ⊗ inverse_standard_deviation) ⊕ loss_cost (n ⊗ inverse_standard_deviation)) (zero ⊕ m ⊗ m ⊕ n ⊗ n)
+    sums v (zero ⊕ loss_cost (m ⊗ isd) ⊕ loss_cost (n ⊗ isd)) (zero ⊕ m ⊗ m ⊕ n ⊗ n)
 
--- the block of a correspondence by the formulas alone, whether its views are tested or not
+-- the block of a correspondence by the formulas alone, whether rows 4 and 9 let it through or not
 unfoldable pub block_of : Rig → Correspondence → LocalLinearization
-block_of rig correspondence = block (views_of rig correspondence) correspondence.inverse_standard_deviation
+block_of rig correspondence =
+    block (views_of rig correspondence) correspondence.inverse_standard_deviation
 
 -- row 4, then row 9 with view 1 or 2, then the block
 unfoldable pub linearize_point : Rig → Correspondence → Result LocalLinearization Refusal
-linearize_point rig correspondence = result_and (check_views rig correspondence) (Ok (block_of rig correspondence))
+linearize_point rig correspondence =
+    result_and (check_views rig correspondence) (Ok (block_of rig correspondence))
 
--- the formulas' block, and whether it is refused
+-- the block by the formulas alone, and whether it is let through
 abbrev pub tested_block : Rig → Correspondence → TestedBlock
 tested_block rig correspondence = record {
   block = block_of rig correspondence;
   accepted = is_ok (check_views rig correspondence);
 }
 
--- the same terms of a block that is made
+-- the same terms, of the block itself
 unfoldable pub point_terms : LocalLinearization → PointTerms
 point_terms b = record {
   cross_hessian = b.cross_hessian;

@@ -1,8 +1,9 @@
 // SPDX-FileCopyrightText: 2026 Pierre Moulon and OpenMVG Rust contributors
 // SPDX-License-Identifier: MIT OR Apache-2.0
 
-// The sums of `LocalLinearization::accumulate`: each entry is the product of two columns of the
-// weighted rows. A column has four numbers, two of view 1 and then two of view 2.
+//! The sums of a point's block, `LocalLinearization::accumulate` of kernel/two_view/schur.rs: each
+//! entry is the product of two columns of the weighted rows. A column has four numbers, two of view
+//! 1 and then two of view 2.
 
 ghost use Rattle.std.specs.Prelude.{◌≡◌, ◌<◌, ◌/◌};
 ghost use Rattle.linearization.specs.Accumulate as Accumulate;
@@ -19,7 +20,7 @@ fn column<const N: usize>(a: [f64; N], b: [f64; N], k: usize) -> [f64; 4]
     [a[k], a[N / 2 + k], b[k], b[N / 2 + k]]
 }
 
-// The sum begins at +0.
+// The product of two columns; the sum begins at +0.
 #[tactic(auto, unfolding(crate::specs::Accumulate::product))]
 #[inline(always)]
 fn product(x: [f64; 4], y: [f64; 4]) -> f64
@@ -28,7 +29,8 @@ fn product(x: [f64; 4], y: [f64; 4]) -> f64
     0.0 + x[0] * y[0] + x[1] * y[1] + x[2] * y[2] + x[3] * y[3]
 }
 
-// Filled row by row: number by number it took ten times as long, and so did the next.
+// H_pp of the pose rows a and b. Filled row by row, as the next is: filled number by number by
+// `from_fn`, either takes ten times as long.
 #[tactic(auto, using(numerics::proofs::Fill::array_none, numerics::proofs::Fill::row_of_five))]
 #[inline(always)]
 pub(crate) fn pose_hessian(a: [f64; 10], b: [f64; 10]) -> [f64; 25]
@@ -51,6 +53,7 @@ pub(crate) fn pose_hessian(a: [f64; 10], b: [f64; 10]) -> [f64; 25]
     h
 }
 
+// H_px of the pose rows a and b and the point rows p and q
 #[tactic(auto, using(numerics::proofs::Fill::array_none, numerics::proofs::Fill::row_of_three))]
 #[inline(always)]
 pub(crate) fn cross_hessian(a: [f64; 10], p: [f64; 6], b: [f64; 10], q: [f64; 6]) -> [f64; 15]
@@ -69,6 +72,7 @@ pub(crate) fn cross_hessian(a: [f64; 10], p: [f64; 6], b: [f64; 10], q: [f64; 6]
     h
 }
 
+// H_xx of the point rows p and q
 #[tactic(auto, unfolding(crate::specs::Accumulate::point_hessian))]
 #[inline(always)]
 pub(crate) fn point_hessian(p: [f64; 6], q: [f64; 6]) -> [f64; 9]
@@ -77,6 +81,7 @@ pub(crate) fn point_hessian(p: [f64; 6], q: [f64; 6]) -> [f64; 9]
     array::from_fn(|k| product(column(p, q, k / 3), column(p, q, k % 3)))
 }
 
+// g_p of the pose rows a and b and the residuals u and v
 #[tactic(auto, unfolding(crate::specs::Accumulate::pose_gradient))]
 #[inline(always)]
 pub(crate) fn pose_gradient(a: [f64; 10], u: [f64; 2], b: [f64; 10], v: [f64; 2]) -> [f64; 5]
@@ -85,6 +90,7 @@ pub(crate) fn pose_gradient(a: [f64; 10], u: [f64; 2], b: [f64; 10], v: [f64; 2]
     array::from_fn(|i| product(column(a, b, i), column(u, v, 0)))
 }
 
+// g_x of the point rows p and q and the residuals u and v
 #[tactic(auto, unfolding(crate::specs::Accumulate::point_gradient))]
 #[inline(always)]
 pub(crate) fn point_gradient(p: [f64; 6], u: [f64; 2], q: [f64; 6], v: [f64; 2]) -> [f64; 3]

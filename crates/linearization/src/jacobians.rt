@@ -1,43 +1,30 @@
 // SPDX-FileCopyrightText: 2026 Pierre Moulon and OpenMVG Rust contributors
 // SPDX-License-Identifier: MIT OR Apache-2.0
 
-// How a point's two coordinates in the second image move with the pose and with the point, in
-// `linearize_point` of kernel/two_view/schur.rs.
+//! How the residual of view 2 moves with the pose and with the point, in `linearize_point` of
+//! kernel/two_view/schur.rs.
 
 ghost use Rattle.std.specs.Prelude.{◌≡◌, ◌<◌, ◌/◌};
 ghost use Rattle.linearization.specs.Jacobians as Jacobians;
 
 use std::array;
 
-// How the turned point moves with the pose: three rows of five
+// How the rotated point a moves with the pose, three rows of five: by the rotation about each axis,
+// then by the two vectors of the translation basis b times the baseline h
+#[tactic(auto, unfolding(crate::specs::Jacobians::pose_motion_jacobian))]
 #[inline(always)]
-pub(crate) fn pose_motion_jacobian(
-    rotated: [f64; 3],
-    translation_basis: [f64; 6],
-    baseline: f64,
-) -> [f64; 15]
-    ensures { result ≡ Jacobians.pose_motion_jacobian rotated translation_basis baseline }
+#[rattlefmt::skip]
+pub(crate) fn pose_motion_jacobian(a: [f64; 3], b: [f64; 6], h: f64) -> [f64; 15]
+    ensures { result ≡ Jacobians.pose_motion_jacobian a b h }
 {
     [
-        0.0,
-        rotated[2],
-        -rotated[1],
-        baseline * translation_basis[0],
-        baseline * translation_basis[3],
-        -rotated[2],
-        0.0,
-        rotated[0],
-        baseline * translation_basis[1],
-        baseline * translation_basis[4],
-        rotated[1],
-        -rotated[0],
-        0.0,
-        baseline * translation_basis[2],
-        baseline * translation_basis[5],
+        0.0, a[2], -a[1], h * b[0], h * b[3],
+        -a[2], 0.0, a[0], h * b[1], h * b[4],
+        a[1], -a[0], 0.0, h * b[2], h * b[5],
     ]
 }
 
-// Two rows of the Jacobian times five columns of the motion
+// The pose Jacobian, two rows of five: the projection's Jacobian j times the motion m
 #[tactic(auto, unfolding(crate::specs::Jacobians::pose_jacobian))]
 #[inline(always)]
 pub(crate) fn pose_jacobian(j: [f64; 6], m: [f64; 15]) -> [f64; 10]
@@ -46,7 +33,8 @@ pub(crate) fn pose_jacobian(j: [f64; 6], m: [f64; 15]) -> [f64; 10]
     array::from_fn(|k| entry(j, m, k / 5, k % 5))
 }
 
-// Two rows of the Jacobian times the rotation, scaled by the baseline
+// The point Jacobian, two rows of three: the projection's Jacobian j times the rotation r, scaled
+// by the baseline
 #[tactic(auto, unfolding(crate::specs::Jacobians::point_jacobian))]
 #[inline(always)]
 pub(crate) fn point_jacobian(j: [f64; 6], r: [f64; 9], baseline: f64) -> [f64; 6]

@@ -1,9 +1,10 @@
 // SPDX-FileCopyrightText: 2026 Pierre Moulon and OpenMVG Rust contributors
 // SPDX-License-Identifier: MIT OR Apache-2.0
 
-//! The block maker of the two-view problem, `linearize_point` of kernel/two_view/schur.rs: both
-//! views of a point (`views`), and the sums of products of their derivatives and residuals that
-//! make its block.
+//! The linearization of a point in both views, `linearize_point` of kernel/two_view/schur.rs: its
+//! weighted residuals and Jacobians (`views`), and its block of the normal equations, which are the
+//! sums of their products (`linearize`). `terms` has the part of a block that the point's step
+//! needs.
 //!
 //! Every function from `tested_block` and `terms_of` down is inlined into the loops over points:
 //! what one hands on to the next are arrays, which stay in registers only if no call is left.

@@ -1,7 +1,8 @@
 // SPDX-FileCopyrightText: 2026 Pierre Moulon and OpenMVG Rust contributors
 // SPDX-License-Identifier: MIT OR Apache-2.0
 
-// The block maker: what one point adds to the system.
+//! The block of a point: what it adds to the normal equations.
+
 ghost use Rattle.std.specs.Prelude.{◌≡◌};
 ghost use Rattle.refusal.specs.Outcome.{outcome};
 ghost use Rattle.linearization.specs.Linearize as Linearize;
@@ -11,15 +12,24 @@ use crate::views::{Correspondence, LinearizedViews, Rig, TestedViews};
 use crate::{accumulate, loss, terms, views};
 use refusal::Refusal;
 
-/// A point's block: 5 by 5, 5 by 3 and 3 by 3, row by row, with its gradients and its cost
+/// A point's block, `LocalLinearization` of kernel/two_view/schur.rs: the sums over both views of
+/// the products of their weighted residual r, pose Jacobian J_p and point Jacobian J_x. Matrices
+/// are row by row.
 #[derive(Clone, Copy)]
 pub struct LocalLinearization {
+    /// H_pp = Σ J_pᵀ J_p, five rows of five
     pub pose_hessian: [f64; 25],
+    /// H_px = Σ J_pᵀ J_x, five rows of three
     pub cross_hessian: [f64; 15],
+    /// H_xx = Σ J_xᵀ J_x, three rows of three
     pub point_hessian: [f64; 9],
+    /// g_p = Σ J_pᵀ r
     pub pose_gradient: [f64; 5],
+    /// g_x = Σ J_xᵀ r
     pub point_gradient: [f64; 3],
+    /// Half the sum of the squared lengths of the weighted residuals
     pub cost: f64,
+    /// The sum of the squared lengths of the residuals before any weight, in pixels squared
     pub squared_residual: f64,
 }
 
@@ -30,7 +40,8 @@ pub struct TestedBlock {
     pub accepted: bool,
 }
 
-/// The block of a correspondence. Tests row 4, then row 9 with view 1 or 2.
+/// The block of a correspondence: the Rust's `linearize_point` with plain squares as its loss.
+/// Refuses: row 4, then row 9 with view 1, then row 9 with view 2.
 #[tactic(auto, unfolding(crate::specs::Linearize::linearize_point))]
 pub fn linearize_point(
     rig: &Rig,
@@ -47,8 +58,9 @@ pub fn linearize_point(
     Ok(block)
 }
 
-/// The same with the verdict as a flag: a loop takes it by value, where a `Result` is copied.
-/// Inlined into the loop with all that it calls, so that the block stays where it is used.
+/// The same with the verdict as a flag in place of rows 4 and 9: a loop takes it by value, where a
+/// `Result` is copied. Inlined into the loop with all that it calls, so that the block stays where
+/// it is used.
 #[tactic(auto, unfolding(crate::specs::Linearize::block_of))]
 #[inline(always)]
 pub fn tested_block(rig: &Rig, correspondence: Correspondence) -> TestedBlock
@@ -70,7 +82,7 @@ pub fn block_of(rig: &Rig, correspondence: Correspondence) -> LocalLinearization
     tested_block(rig, correspondence).block
 }
 
-// The block of two views, with what each adds to the cost and to the squared residual
+// The block of two views: each adds to the cost and to the squared residual.
 #[tactic(auto, unfolding(crate::specs::Linearize::block))]
 #[inline(always)]
 fn block(views: LinearizedViews, inverse_standard_deviation: f64) -> LocalLinearization
@@ -84,6 +96,7 @@ fn block(views: LinearizedViews, inverse_standard_deviation: f64) -> LocalLinear
     sums(views, cost, 0.0 + norm1 * norm1 + norm2 * norm2)
 }
 
+// The block of two views, with its cost and its squared residual
 #[tactic(auto, unfolding(crate::specs::Linearize::sums))]
 #[inline(always)]
 fn sums(views: LinearizedViews, cost: f64, squared_residual: f64) -> LocalLinearization

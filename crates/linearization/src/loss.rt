@@ -1,7 +1,7 @@
 // SPDX-FileCopyrightText: 2026 Pierre Moulon and OpenMVG Rust contributors
 // SPDX-License-Identifier: MIT OR Apache-2.0
 
-// The loss of a view's residual: plain squares. From kernel/two_view/schur.rs.
+//! The loss of a view's residual, plain squares: `Loss::L2` of kernel/two_view/schur.rs.
 
 ghost use Rattle.std.specs.Prelude.{◌≡◌};
 ghost use Rattle.linearization.specs.Loss as Loss;

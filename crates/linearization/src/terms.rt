@@ -1,7 +1,8 @@
 // SPDX-FileCopyrightText: 2026 Pierre Moulon and OpenMVG Rust contributors
 // SPDX-License-Identifier: MIT OR Apache-2.0
 
-// What the step of a point needs of its block.
+//! What the step of a point needs of its block.
+
 ghost use Rattle.std.specs.Prelude.{◌≡◌};
 ghost use Rattle.linearization.specs.Linearize as Linearize;
 
@@ -9,17 +10,23 @@ use crate::linearize::LocalLinearization;
 use crate::views::{Correspondence, Rig, View1, View2};
 use crate::{accumulate, views};
 
-/// What the step of a point needs of its block: neither the pose's own terms nor the cost, so that
-/// the second pass over the points makes no more than this.
+/// What the step of a point needs of its block, row by row: neither the pose's own terms nor the
+/// cost, so that the second pass over the points makes no more than this.
 #[derive(Clone, Copy)]
 pub struct PointTerms {
+    /// H_px, five rows of three
     pub cross_hessian: [f64; 15],
+    /// H_xx, three rows of three
     pub point_hessian: [f64; 9],
+    /// g_x
     pub point_gradient: [f64; 3],
 }
 
-/// The terms of the block that `block_of` makes of a correspondence
-#[tactic(auto, unfolding(crate::specs::Linearize::block_of, crate::specs::Linearize::point_terms, crate::specs::Linearize::block, crate::specs::Linearize::sums))]
+/// The terms of the block that `block_of` gives for the correspondence
+#[rattlefmt::skip]
+#[tactic(auto, unfolding(
+    crate::specs::Linearize::block_of, crate::specs::Linearize::block,
+    crate::specs::Linearize::sums, crate::specs::Linearize::point_terms))]
 #[inline(always)]
 pub fn terms_of(rig: &Rig, correspondence: Correspondence) -> PointTerms
     ensures { result ≡ Linearize.point_terms (Linearize.block_of rig.now correspondence) }
@@ -49,7 +56,7 @@ impl From<LocalLinearization> for PointTerms {
     }
 }
 
-// The terms of both views; those of view 1 by the pose are all alike.
+// The terms of both views. The ten entries of view 1's pose Jacobian are one number.
 #[tactic(auto, unfolding(crate::specs::Linearize::terms))]
 #[inline(always)]
 pub(crate) fn terms(first: View1, second: View2) -> PointTerms

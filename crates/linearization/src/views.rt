@@ -1,9 +1,9 @@
 // SPDX-FileCopyrightText: 2026 Pierre Moulon and OpenMVG Rust contributors
 // SPDX-License-Identifier: MIT OR Apache-2.0
 
-// Both views of a point, residual_and_jacobian and weighted: residuals, with their derivatives by the five
-// parameters of the pose and by the three coordinates of the point. The first half of
-// `linearize_point` of kernel/two_view/schur.rs.
+//! Both views of a point, linearized and weighted: residuals, with their derivatives by the five
+//! parameters of the pose and by the three coordinates of the point. The first half of
+//! `linearize_point` of kernel/two_view/schur.rs.
 
 ghost use Rattle.std.specs.Prelude.{◌<◌, ◌≡◌};
 ghost use Rattle.numerics.specs.Binary64.{◌⊗◌};
@@ -15,18 +15,21 @@ use projection::{PinholeCamera, Projection};
 use refusal::{Refusal, View};
 use std::array;
 
-/// How the second camera sits: the rotation by rows, the translation, the baseline, and two vectors
-/// that span the translation's tangent plane
+/// How the second camera sits against the first
 #[derive(Clone, Copy)]
 pub struct RelativePose {
+    /// Three rows of three
     pub rotation: [f64; 9],
+    /// In the second camera's frame, in the unit of the points
     pub translation: [f64; 3],
     // here, between arrays: a longer run of them would be copied by a call of the C library
+    /// The length that a step along the translation basis and a step of a point are in units of
     pub baseline: f64,
+    /// Two vectors of three that span the tangent plane of the translation's direction
     pub translation_basis: [f64; 6],
 }
 
-/// The two cameras, and how the second one sits
+/// The two cameras, and how the second one sits. Camera 1 is the world's frame.
 #[derive(Clone, Copy)]
 pub struct Rig {
     pub camera1: PinholeCamera,
@@ -34,32 +37,40 @@ pub struct Rig {
     pub pose: RelativePose,
 }
 
-/// A point, seen by both cameras, with its inverse standard deviation
+/// A point, seen by both cameras
 #[derive(Clone, Copy)]
 pub struct Correspondence {
+    /// In camera 1's frame
     pub point: [f64; 3],
+    /// The observation in view 1, in pixels
     pub view1: [f64; 2],
+    /// The observation in view 2, in pixels
     pub view2: [f64; 2],
+    /// Of both observations, in 1 ÷ pixels
     pub inverse_standard_deviation: f64,
 }
 
-/// View 1, whose ten derivatives by the pose are all the same number
+/// The weighted rows of view 1
 #[derive(Clone, Copy)]
 pub struct View1 {
     pub residual: [f64; 2],
+    /// Each of the ten entries of the pose Jacobian
     pub pose_zero: f64,
+    /// The point Jacobian, two rows of three
     pub point: [f64; 6],
 }
 
-/// View 2
+/// The weighted rows of view 2
 #[derive(Clone, Copy)]
 pub struct View2 {
     pub residual: [f64; 2],
+    /// The pose Jacobian, two rows of five
     pub pose: [f64; 10],
+    /// The point Jacobian, two rows of three
     pub point: [f64; 6],
 }
 
-/// Both views, with their residuals before any weight
+/// The weighted rows of both views, with their residuals before any weight
 #[derive(Clone, Copy)]
 pub struct LinearizedViews {
     pub first: View1,
@@ -75,7 +86,8 @@ pub(crate) struct TestedViews {
     pub accepted: bool,
 }
 
-// The tests are made together and give a flag: which row refuses is asked for where one does.
+// Both views of a correspondence. The tests are made together and give a flag: `check_views` says
+// which row refuses, where one does.
 #[tactic(auto, using(crate::proofs::Tested::accepted_is), unfolding(crate::specs::Views::views_of))]
 #[inline(always)]
 pub(crate) fn tested_views(rig: &Rig, correspondence: Correspondence) -> TestedViews
@@ -139,7 +151,7 @@ pub(crate) fn check_views(rig: &Rig, correspondence: Correspondence) -> Result<(
     Ok(())
 }
 
-/// Row 4 lets an inverse deviation through that is finite and above 0.
+/// Whether row 4 lets an inverse standard deviation through: finite and above 0
 #[tactic(auto, unfolding(crate::specs::Views::is_valid_inverse_standard_deviation))]
 #[inline(always)]
 pub fn is_valid_inverse_standard_deviation(x: f64) -> bool
@@ -148,7 +160,7 @@ pub fn is_valid_inverse_standard_deviation(x: f64) -> bool
     numerics::is_finite(x) & !(x <= 0.0)
 }
 
-// Two projections, the turned point, the pose and the inverse deviation
+// Both views from their projections, the rotated point, the pose and the inverse standard deviation
 #[tactic(auto, unfolding(crate::specs::Views::weighted_views))]
 #[inline(always)]
 fn weighted_views(
@@ -156,14 +168,14 @@ fn weighted_views(
     second: Projection,
     rotated: [f64; 3],
     pose: &RelativePose,
-    inverse_standard_deviation: f64,
+    isd: f64,
 ) -> LinearizedViews
-    ensures { result ≡ Views.weighted_views first second rotated pose.now inverse_standard_deviation }
+    ensures { result ≡ Views.weighted_views first second rotated pose.now isd }
 {
     let residual1 = first.residual;
     let residual2 = second.residual;
-    let weight1 = loss::row_weight(residual1, inverse_standard_deviation);
-    let weight2 = loss::row_weight(residual2, inverse_standard_deviation);
+    let weight1 = loss::row_weight(residual1, isd);
+    let weight2 = loss::row_weight(residual2, isd);
     LinearizedViews {
         first: weighted_view1(first, pose, weight1),
         second: weighted_view2(second, rotated, pose, weight2),
@@ -172,49 +184,37 @@ fn weighted_views(
     }
 }
 
+// View 1 sees the point where it is, so the pose moves nothing: weight × 0, which shows where the
+// weight is infinite.
 #[tactic(auto, unfolding(crate::specs::Views::weighted_view1))]
 #[inline(always)]
-fn weighted_view1(first: Projection, pose: &RelativePose, weight: f64) -> View1
-    ensures { result ≡ Views.weighted_view1 first pose.now weight }
+fn weighted_view1(projection: Projection, pose: &RelativePose, weight: f64) -> View1
+    ensures { result ≡ Views.weighted_view1 projection pose.now weight }
 {
-    weighted_view1_of(first.residual, first.jacobian, pose.baseline, weight)
-}
-
-#[tactic(auto, unfolding(crate::specs::Views::weighted_view2))]
-#[inline(always)]
-fn weighted_view2(second: Projection, rotated: [f64; 3], pose: &RelativePose, weight: f64) -> View2
-    ensures { result ≡ Views.weighted_view2 second rotated pose.now weight }
-{
-    let motion = jacobians::pose_motion_jacobian(rotated, pose.translation_basis, pose.baseline);
-    let by_pose = jacobians::pose_jacobian(second.jacobian, motion);
-    let by_point = jacobians::point_jacobian(second.jacobian, pose.rotation, pose.baseline);
-    weighted_view2_of(second.residual, by_pose, by_point, weight)
-}
-
-// View 1 sees the point where it is, so the pose moves nothing: weight × 0, which shows where the
-// weight times a residual is infinite.
-#[tactic(auto, unfolding(crate::specs::Views::weighted_view1_of))]
-#[inline(always)]
-fn weighted_view1_of(residual: [f64; 2], j: [f64; 6], baseline: f64, weight: f64) -> View1
-    ensures { result ≡ Views.weighted_view1_of residual j baseline weight }
-{
+    let Projection { residual, jacobian } = projection;
+    let baseline = pose.baseline;
     View1 {
         residual: weighted_entries(residual, weight),
         pose_zero: weight * 0.0,
-        point: array::from_fn(|i| weight * (j[i] * baseline)),
+        point: array::from_fn(|i| weight * (jacobian[i] * baseline)),
     }
 }
 
-#[tactic(auto, unfolding(crate::specs::Views::weighted_view2_of))]
+// View 2 sees the rotated point, which moves with the pose.
+#[tactic(auto, unfolding(crate::specs::Views::weighted_view2))]
 #[inline(always)]
-fn weighted_view2_of(
-    residual: [f64; 2],
-    by_pose: [f64; 10],
-    by_point: [f64; 6],
+fn weighted_view2(
+    projection: Projection,
+    rotated: [f64; 3],
+    pose: &RelativePose,
     weight: f64,
 ) -> View2
-    ensures { result ≡ Views.weighted_view2_of residual by_pose by_point weight }
+    ensures { result ≡ Views.weighted_view2 projection rotated pose.now weight }
 {
+    let Projection { residual, jacobian } = projection;
+    let motion = jacobians::pose_motion_jacobian(rotated, pose.translation_basis, pose.baseline);
+    let by_pose = jacobians::pose_jacobian(jacobian, motion);
+    let by_point = jacobians::point_jacobian(jacobian, pose.rotation, pose.baseline);
     View2 {
         residual: weighted_entries(residual, weight),
         pose: weighted_entries(by_pose, weight),

@@ -9,11 +9,12 @@ use native.Mathlib.Nat.{add-zero, add-suc, suc-add, zero-add}
 use native.Mathlib.Numerals.{add-one}
 use native.Mathlib.Omega.{arith}
 use borrow.Author.Tests.{lt-ltb}
-use lib.Dec.{T, leb, ltb, le→leb}
+use lib.Dec.{leb, ltb, le→leb}
 use lib.Ieee.{Float, is_nan}
 use lib.Ieee.Bits.{is_true, is_false}
 use mathlib.Core.Logic.{◌⊎◌, inl, inr}
 use Rattle.std.specs.Prelude.{Result, Ok, is_ok}
+use Rattle.std.specs.List.{list_all}
 use Rattle.std.proofs.lemmas.Bool.{and_parts, cases_lt}
 use Rattle.std.proofs.lemmas.Float.{le_left}
 use Rattle.numerics.specs.Vectors.{all_finite}
@@ -21,12 +22,12 @@ use Rattle.refusal.specs.declared.Refusal.{Refusal}
 use Rattle.point_block.specs.Damping.{is_valid_damping}
 use Rattle.linearization.specs.Linearize.{block_or_zeros}
 use Rattle.linearization.specs.declared.linearize.LocalLinearization.{LocalLinearization}
-use Rattle.schur.specs.Reduced.{new_system, with_hessian, is_valid}
+use Rattle.schur.specs.Reduced.{new_system, is_valid}
 use Rattle.refusal.specs.FirstRefusal.{CheckResult}
 use Rattle.schur.specs.ReducedAdd.{max_blocks, check_room, take_in, add, system_after}
 use Rattle.schur.specs.declared.reduced_system.ReducedSystem.{ReducedSystem}
 use Rattle.schur.proofs.Room.{blocks_taken, weak_taken_at_most}
-use Rattle.add_sequences.specs.Calls.{Inputs, linearization_of, Call, Add, system_after_call, system_after_calls, factors, blocks_taken_in, all}
+use Rattle.add_sequences.specs.Calls.{Inputs, linearization_of, Call, Add, system_after_call, system_after_calls, factors, blocks_taken_in}
 use Rattle.add_sequences.proofs.Claim.{claim}
 use Rattle.problem.specs.Problem.{Problem, count, correspondence_at}
 use Rattle.problem.specs.Checks.{AcceptsFirst, check_problem}
@@ -99,7 +100,7 @@ module _ (p : Problem) (ok : check_problem p ≡ Ok tt) where
   good = (passed p ok).damping
 
   few : count p ≤ max_blocks
-  few = (passed p ok).fits.3
+  few = (passed p ok).fits.most
 
   made_is : (i : ℕ) → i < count p → linearization_of (inputs p i) ≡ block_at p i
   made_is i h = ap block_or_zeros (block_made p ok i h)
@@ -133,12 +134,12 @@ module _ (p : Problem) (ok : check_problem p ≡ Ok tt) where
       rw (lt-ltb m max_blocks k) (ap₂ (λ (b : LocalLinearization) (bs : List LocalLinearization). b ∷ bs) (made_is i (omega arith)) (all_taken (suc m) (suc i) n (omega arith) (omega arith)))
 
 -- what holds of every block holds of each
-each : (p : Problem) (good : LocalLinearization → Bool) (i n j : ℕ) → all good (blocks p i n) ≡ true → j < n → good (block_at p (i + j)) ≡ true
+each : (p : Problem) (good : LocalLinearization → Bool) (i n j : ℕ) → list_all good (blocks p i n) ≡ true → j < n → good (block_at p (i + j)) ≡ true
 each p good i zero j e h = absurd (omega arith)
-each p good i (suc n) zero e h = ap (λ (k : ℕ). good (block_at p k)) (add-zero i) ∙ (and_parts (good (block_at p i)) (all good (blocks p (suc i) n)) e).0
+each p good i (suc n) zero e h = ap (λ (k : ℕ). good (block_at p k)) (add-zero i) ∙ (and_parts (good (block_at p i)) (list_all good (blocks p (suc i) n)) e).0
 each p good i (suc n) (suc j) e h =
     ap (λ (k : ℕ). good (block_at p k)) (add-suc i j ∙ sym (suc-add i j))
-    ∙ each p good (suc i) n j (and_parts (good (block_at p i)) (all good (blocks p (suc i) n)) e).1 (omega arith)
+    ∙ each p good (suc i) n j (and_parts (good (block_at p i)) (list_all good (blocks p (suc i) n)) e).1 (omega arith)
 
 -- ---- a valid system, and blocks that factor
 
@@ -148,10 +149,10 @@ valid_flag s e = (and_parts s.valid (all_finite s.gradient) (and_parts (s.valid 
 
 -- every block of a problem that has a valid system factors
 module _ (p : Problem) (ok : check_problem p ≡ Ok tt) (valid : is_valid (reduced_system p) ≡ true) where
-  all_factor : all (factors p.damping) (blocks p 0 (count p)) ≡ true
-  unfolding reduced_system with_hessian
+  all_factor : list_all (factors p.damping) (blocks p 0 (count p)) ≡ true
+  unfolding reduced_system
   all_factor =
-      ap (λ (l : List LocalLinearization). all (factors p.damping) l) (sym (all_taken p ok 0 0 (count p) (omega (arith, few p ok)) (omega arith)))
+      ap (λ (l : List LocalLinearization). list_all (factors p.damping) l) (sym (all_taken p ok 0 0 (count p) (omega (arith, few p ok)) (omega arith)))
       ∙ sym (claim p.damping (good p ok) (calls p 0 (count p))).flag
       ∙ ap (λ (t : ReducedSystem). t.valid) (after_all p ok)
       ∙ valid_flag (reduced_system p) valid
@@ -162,7 +163,7 @@ module _ (p : Problem) (ok : check_problem p ≡ Ok tt) (valid : is_valid (reduc
 -- ---- the weak count is at most the number of points
 
 pub weak_at_most : (p : Problem) → (reduced_system p).weak_point_count ≤ count p
-unfolding reduced_system with_hessian
+unfolding reduced_system
 weak_at_most p =
     let w = weak_counted p (count p) in
     let b = blocks_counted p (count p) in
@@ -171,7 +172,7 @@ weak_at_most p =
 -- ---- cost and squared residual are numbers, since the order of IEEE 754 holds of them
 
 pub costs_are_numbers : (p : Problem) → check_problem p ≡ Ok tt → (is_nan (reduced_system p).cost ≡ false) × (is_nan (reduced_system p).squared_residual ≡ false)
-unfolding reduced_system with_hessian
+unfolding reduced_system
 costs_are_numbers p ok =
     let f = (claim p.damping (good p ok) (calls p 0 (count p))).further [] in
     let e = after_all p ok in (

@@ -1,4 +1,4 @@
--- The pass over all points that fills the room with their steps, and its sums. Assumes nothing.
+-- The pass over all points that fills the memory for their steps, and its sums. Assumes nothing.
 use mathlib.Core.Path.{◌≡◌, refl, sym, ap, ◌∙◌}
 use mathlib.Core.List.{List, ◌++◌, append_assoc}
 use Prim.Native.Nat.{ℕ, zero, suc, ◌+◌, ◌-◌, ◌*◌}
@@ -28,24 +28,24 @@ module _ (p : Problem) (s : List Float) where
       length-append (steps_to p s n) (step_at p s n).step ∙ omega arith
 
   abbrev pub Filled : List Float → ℕ → List Float → Type 0
-  Filled room₀ i room = room ≡ steps_to p s i ++ drop (3 * i) room₀
+  Filled before i steps = steps ≡ steps_to p s i ++ drop (3 * i) before
 
-  pub room_none : (room₀ : List Float) → Filled room₀ 0 room₀
+  pub filled_none : (before : List Float) → Filled before 0 before
   unfolding steps_to
-  room_none room₀ = refl
+  filled_none before = refl
 
-  pub room_next : (room₀ room x : List Float) (i : ℕ) → Filled room₀ i room → x ≡ (step_at p s i).step → Filled room₀ (i + 1) (put_mid (3 * i) (3 * i + 3 - 3 * i) room x)
+  pub filled_next : (before steps x : List Float) (i : ℕ) → Filled before i steps → x ≡ (step_at p s i).step → Filled before (i + 1) (put_mid (3 * i) (3 * i + 3 - 3 * i) steps x)
   unfolding steps_to
-  room_next room₀ room x i e f =
+  filled_next before steps x i e f =
       let n = 3 * i + 3 - 3 * i in
       let behind : 3 * i + n ≡ 3 * (i + 1) = omega arith in
       ap (λ (l : List Float). put_mid (3 * i) n l x) e
-      ∙ ap (λ (l : List Float). l ++ (x ++ post_of (3 * i) n (steps_to p s i ++ drop (3 * i) room₀))) (take_at (steps_to p s i) (drop (3 * i) room₀) (3 * i) (steps_length i))
-      ∙ ap (λ (l : List Float). steps_to p s i ++ (x ++ drop n l)) (drop_at (steps_to p s i) (drop (3 * i) room₀) (3 * i) (steps_length i))
-      ∙ ap (λ (l : List Float). steps_to p s i ++ (x ++ l)) (drop-drop n (3 * i) room₀ ∙ ap (λ (j : ℕ). drop j room₀) behind)
-      ∙ ap (λ (l : List Float). steps_to p s i ++ (l ++ drop (3 * (i + 1)) room₀)) f
-      ∙ sym (append_assoc (steps_to p s i) (step_at p s i).step (drop (3 * (i + 1)) room₀))
-      ∙ ap (λ (j : ℕ). steps_to p s j ++ drop (3 * (i + 1)) room₀) (sym (add-one i))
+      ∙ ap (λ (l : List Float). l ++ (x ++ post_of (3 * i) n (steps_to p s i ++ drop (3 * i) before))) (take_at (steps_to p s i) (drop (3 * i) before) (3 * i) (steps_length i))
+      ∙ ap (λ (l : List Float). steps_to p s i ++ (x ++ drop n l)) (drop_at (steps_to p s i) (drop (3 * i) before) (3 * i) (steps_length i))
+      ∙ ap (λ (l : List Float). steps_to p s i ++ (x ++ l)) (drop-drop n (3 * i) before ∙ ap (λ (j : ℕ). drop j before) behind)
+      ∙ ap (λ (l : List Float). steps_to p s i ++ (l ++ drop (3 * (i + 1)) before)) f
+      ∙ sym (append_assoc (steps_to p s i) (step_at p s i).step (drop (3 * (i + 1)) before))
+      ∙ ap (λ (j : ℕ). steps_to p s j ++ drop (3 * (i + 1)) before) (sym (add-one i))
 
   -- ---- their sums
 
@@ -60,3 +60,6 @@ module _ (p : Problem) (s : List Float) where
   pub norm_next : (i : ℕ) (q : Float) (x : PointStep) → q ≡ (sums_to p s i).damping_norm → x ≡ step_at p s i → q ⊕ x.damping_norm ≡ (sums_to p s (i + 1)).damping_norm
   unfolding sums_to
   norm_next i q x e f = rw (add-one i, f, e) refl
+
+-- the start of the pass, and one more point
+pub ruleset passes = (filled_none, filled_next, sums_none, squared_next, norm_next)

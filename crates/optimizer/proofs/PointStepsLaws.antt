@@ -4,18 +4,17 @@ use mathlib.Core.Path.{◌≡◌, refl, sym, ap, ◌∙◌}
 use mathlib.Core.Bool.{true, true≢false}
 use mathlib.Core.List.{List}
 use Prim.Native.Nat.{ℕ, ◌<◌}
-use lib.Dec.{T}
 use lib.Ieee.{Float}
-use lib.Ieee.Bits.{is_true}
 use Rattle.std.specs.Prelude.{Result, Ok, Err, is_ok}
 use Rattle.refusal.specs.declared.Refusal.{Refusal}
 use Rattle.point_block.specs.Damping.{is_valid_damping}
 use Rattle.point_block.specs.FactorWithRcond.{factor, inverse_at}
 use Rattle.point_block.specs.declared.PointBlockFactor.{PointBlockFactor}
-use Rattle.point_block.proofs.Laws.{lone_factors, factor_is}
+use Rattle.point_block.proofs.Laws.{factors_with_rcond, factor_is}
 use Rattle.linearization.specs.Linearize.{block_of, point_terms}
 use Rattle.linearization.specs.declared.terms.PointTerms.{PointTerms}
 use Rattle.linearization.specs.declared.views.Correspondence.{Correspondence}
+use Rattle.linearization.specs.declared.views.Rig.{Rig}
 use Rattle.linearization.specs.declared.linearize.LocalLinearization.{LocalLinearization}
 use Rattle.schur.specs.Reduced.{is_valid, finish_damping, predicted_reduction}
 use Rattle.schur.specs.PointStep.{step_by_inverse, damped_step, point_step}
@@ -33,7 +32,7 @@ use Rattle.optimizer.proofs.Blocks.{added, block_factors}
 -- a block that factors has the step of the formulas
 damped_steps : (b : LocalLinearization) (d : Float) (s : List Float) → is_valid_damping d ≡ true → factors d b ≡ true → damped_step (point_terms b) d s ≡ Ok (Point.step_at (point_terms b) d s)
 unfolding damped_step point_terms factors
-damped_steps b d s g e = by (factor b.point_hessian d) refl (sym (lone_factors b.point_hessian d g) ∙ e)
+damped_steps b d s g e = by (factor b.point_hessian d) refl (sym (factors_with_rcond b.point_hessian d g) ∙ e)
   where
     step_by : Result PointBlockFactor Refusal → Result PointStep Refusal
     step_by f = elim f [ Ok k ↦ Ok (step_by_inverse k.inverse (point_terms b) s) | Err q ↦ Err q ]
@@ -51,9 +50,10 @@ module _ (p : Problem) (ok : check_problem p ≡ Ok tt) where
 
   -- the same of terms that are worked out as the pass over the points does
   pub moved_is : is_valid (reduced_system p) ≡ true → (s : List Float) (i : ℕ) → i < count p
-      → (q : Problem) (c : Correspondence) (t : PointTerms) (d : Float) (r : Result PointStep Refusal) → q ≡ p → c ≡ correspondence_at q i → t ≡ point_terms (block_of q.rig c) → d ≡ p.damping → r ≡ damped_step t d s
+      → (q : Problem) (c : Correspondence) (rig : Rig) (t : PointTerms) (d : Float) (r : Result PointStep Refusal)
+      → q ≡ p → c ≡ correspondence_at q i → rig ≡ q.rig → t ≡ point_terms (block_of rig c) → d ≡ p.damping → r ≡ damped_step t d s
       → r ≡ Ok (step_at p s i)
-  moved_is valid s i l q c t d r e f g h k = rw (k, g, h, f, e) (step_given valid i l s)
+  moved_is valid s i l q c rig t d r e f j g h k = rw (k, g, h, j, f, e) (step_given valid i l s)
 
   pub none_refused : NoneRefused p
   unfolding finish_damping predicted_reduction point_step reduced_system

@@ -24,25 +24,25 @@ use Rattle.optimizer.specs.declared.point_steps.StepSums.{StepSums}
 use Rattle.optimizer.specs.declared.step_result.StepResult.{StepResult}
 use Rattle.optimizer.proofs.PointStepsLaws.{none_refused}
 
--- ---- row 1 with the room: the points' length decides where the two agree, and one of them is wrong where they do not
+-- ---- row 1 with the memory for the point steps: the points' length decides where the two agree, and one of them is wrong where they do not
 
 points_short : (p : Problem) → eqb (length p.points) (3 * count p) ≡ false → Checks.check_problem p ≡ Err Lengths
 unfolding Checks.check_problem
 points_short p e = rw e refl
 
-lengths_differ : (p : Problem) (room : ℕ) → (room ≡ length p.points → ⊥) → check_step p room ≡ Err Lengths
+lengths_differ : (p : Problem) (numbers : ℕ) → (numbers ≡ length p.points → ⊥) → check_step p numbers ≡ Err Lengths
 unfolding check_step
-lengths_differ p room t = by (eqb room (3 * count p)) refl
+lengths_differ p numbers t = by (eqb numbers (3 * count p)) refl
   where
-    by : (b : Bool) → eqb room (3 * count p) ≡ b → result_and (refuse_unless b Lengths) (Checks.check_problem p) ≡ Err Lengths
-    by true q = points_short p (ne_eqb (length p.points) (3 * count p) (λ k. t (eqb-true room (3 * count p) q ∙ sym k)))
+    by : (b : Bool) → eqb numbers (3 * count p) ≡ b → result_and (refuse_unless b Lengths) (Checks.check_problem p) ≡ Err Lengths
+    by true q = points_short p (ne_eqb (length p.points) (3 * count p) (λ k. t (eqb-true numbers (3 * count p) q ∙ sym k)))
     by false q = refl
 
-lengths_agree : (p : Problem) (room : ℕ) → room ≡ length p.points → check_step p room ≡ Checks.check_problem p
+lengths_agree : (p : Problem) (numbers : ℕ) → numbers ≡ length p.points → check_step p numbers ≡ Checks.check_problem p
 unfolding check_step
-lengths_agree p room t = by (eqb room (3 * count p)) refl
+lengths_agree p numbers t = by (eqb numbers (3 * count p)) refl
   where
-    by : (b : Bool) → eqb room (3 * count p) ≡ b → result_and (refuse_unless b Lengths) (Checks.check_problem p) ≡ Checks.check_problem p
+    by : (b : Bool) → eqb numbers (3 * count p) ≡ b → result_and (refuse_unless b Lengths) (Checks.check_problem p) ≡ Checks.check_problem p
     by true q = refl
     by false q = sym (points_short p (ap (λ (l : ℕ). eqb l (3 * count p)) (sym t) ∙ q))
 
@@ -71,20 +71,20 @@ damped_sums o q t s d h e f g = rw (g, f, e, (let_through _ o q h).1) refl
 
 -- ---- the ways out of the whole step
 
-module _ (p : Problem) (room : List Float) where
-  refuses : (e : Refusal) → check_step p (length room) ≡ Err e → StepOutcome p room (Err e) room
+module _ (p : Problem) (before : List Float) where
+  refuses : (e : Refusal) → check_step p (length before) ≡ Err e → StepOutcome p before (Err e) before
   unfolding step
-  refuses e h = record { result = rw h refl; answered = rw h refl; room_after = refl; none_refused = λ y. absurd (cc) }
+  refuses e h = record { result = rw h refl; outcome_with_zeros = rw h refl; point_steps = refl; none_refused = λ y. absurd (cc) }
 
-  pub wrong_room : (length room ≡ length p.points → ⊥) → StepOutcome p room (Err Lengths) room
-  wrong_room t = refuses Lengths (lengths_differ p (length room) t)
+  pub wrong_length : (length before ≡ length p.points → ⊥) → StepOutcome p before (Err Lengths) before
+  wrong_length t = refuses Lengths (lengths_differ p (length before) t)
 
-  module _ (t : length room ≡ length p.points) where
-    pub unreadable : (e : Refusal) (r : Result StepResult Refusal) → tested (Checks.check_readable p) p ≡ Err e → r ≡ Err e → StepOutcome p room r room
-    unreadable e r h k = rw k (refuses e (lengths_agree p (length room) t ∙ refused_first p e (refused_by _ p e h)))
+  module _ (t : length before ≡ length p.points) where
+    pub unreadable : (e : Refusal) (r : Result StepResult Refusal) → tested (Checks.check_readable p) p ≡ Err e → r ≡ Err e → StepOutcome p before r before
+    unreadable e r h k = rw k (refuses e (lengths_agree p (length before) t ∙ refused_first p e (refused_by _ p e h)))
 
-    pub checks_refused : (e : Refusal) (r : Result StepResult Refusal) → tested (Checks.check_problem p) p ≡ Err e → r ≡ Err e → StepOutcome p room r room
-    checks_refused e r h k = rw k (refuses e (lengths_agree p (length room) t ∙ refused_by _ p e h))
+    pub checks_refused : (e : Refusal) (r : Result StepResult Refusal) → tested (Checks.check_problem p) p ≡ Err e → r ≡ Err e → StepOutcome p before r before
+    checks_refused e r h k = rw k (refuses e (lengths_agree p (length before) t ∙ refused_by _ p e h))
 
     module _ (q : Problem) (h : tested (Checks.check_problem p) p ≡ Ok q) where
       ok : Checks.check_problem p ≡ Ok tt
@@ -93,12 +93,12 @@ module _ (p : Problem) (room : List Float) where
       same : q ≡ p
       same = (let_through _ p q h).1
 
-      done : (r : Result StepResult Refusal) (after : List Float) → r ≡ step_after_checks p → after ≡ point_steps_after p r room → StepOutcome p room r after
+      done : (r : Result StepResult Refusal) (after : List Float) → r ≡ step_after_checks p → after ≡ point_steps_after p r before → StepOutcome p before r after
       unfolding step
       done r after e f = record {
-        result = e ∙ rw (lengths_agree p (length room) t, ok) refl;
-        answered = ap (outcome zero_step_result) (e ∙ rw (lengths_agree p (length room) t, ok) refl);
-        room_after = f;
+        result = e ∙ rw (lengths_agree p (length before) t, ok) refl;
+        outcome_with_zeros = ap (outcome zero_step_result) (e ∙ rw (lengths_agree p (length before) t, ok) refl);
+        point_steps = f;
         none_refused = λ y. none_refused p ok;
       }
 
@@ -106,20 +106,20 @@ module _ (p : Problem) (room : List Float) where
         made : s ≡ reduced_system p
         made = system ∙ ap reduced_system same
 
-        pub not_valid : is_valid s ≡ false → StepOutcome p room (Err NotFactored) room
+        pub not_valid : is_valid s ≡ false → StepOutcome p before (Err NotFactored) before
         unfolding step_after_checks
-        not_valid e = done (Err NotFactored) room (rw (sym made, e) refl) refl
+        not_valid e = done (Err NotFactored) before (rw (sym made, e) refl) refl
 
         module _ (valid : is_valid s ≡ true) where
-          pub not_solved : (e : Refusal) (r : Result StepResult Refusal) → solve_positive_definite s.hessian s.gradient ≡ Err e → r ≡ Err e → StepOutcome p room r room
+          pub not_solved : (e : Refusal) (r : Result StepResult Refusal) → solve_positive_definite s.hessian s.gradient ≡ Err e → r ≡ Err e → StepOutcome p before r before
           unfolding step_after_checks
-          not_solved e r k l = rw l (done (Err e) room (rw (sym made, valid, k) refl) refl)
+          not_solved e r k l = rw l (done (Err e) before (rw (sym made, valid, k) refl) refl)
 
           pub solved : (x v : List Float) (sums : StepSums) (after : List Float) (u : StepResult) → solve_positive_definite s.hessian s.gradient ≡ Ok x → v ≡ negated_limited_step x
               → sums ≡ sums_to q v (count q)
               → after ≡ steps_to q v (count q)
               → u ≡ step_result s v q.damping (count q) sums.squared sums.damping_norm
-              → StepOutcome p room (Ok u) after
+              → StepOutcome p before (Ok u) after
           unfolding step_after_checks result_with step_result
           solved x v sums after u k l e f g =
               done (Ok u) after (ap Ok g ∙ rw (e, l, same, sym made, valid, k) refl) (f ∙ rw (same, g) refl)

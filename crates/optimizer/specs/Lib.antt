@@ -1,4 +1,4 @@
--- The whole step: optimizer.rs.
+-- The whole step: kernel/two_view/optimizer.rs.
 pub mod PoseStep
 pub mod Assembly
 pub mod PointSteps

@@ -1,4 +1,4 @@
--- What a whole step gives: document 01, "One whole step".
+-- The figures that a whole step gives: docs/SPECIFICATION.md, "Whole step".
 use Rattle.std.specs.Prelude.{ℕ, List, pos, Float}
 use Rattle.std.specs.Float.{binary64}
 use Rattle.std.specs.Float.Ieee.{of_int}
@@ -9,10 +9,11 @@ use Rattle.schur.specs.Reduced.{gradient_inf_norm, reduction_of}
 use Rattle.schur.specs.declared.reduced_system.ReducedSystem.{ReducedSystem}
 use Rattle.optimizer.specs.declared.step_result.StepResult.{StepResult}
 
+-- √(squares ÷ n), the root mean square of the lengths of n point steps
 abbrev pub rms : Float → ℕ → Float
 rms squares n = sqrt (squares ⊘ of_int binary64 (pos n))
 
--- +0 everywhere: what stands beside a refusal
+-- what stands beside a refusal: +0 for each number, and the count 0
 abbrev pub zero_step_result : StepResult
 zero_step_result = record {
   pose_step = zeros 5;
@@ -26,8 +27,8 @@ zero_step_result = record {
   predicted_reduction = zero;
 }
 
--- the result, from the system, the limited step of the pose, and the squared lengths and damping
--- norms of n point steps, summed
+-- the result from the damped system, the limited pose step s, the damping, and over n point steps
+-- the sums of their squared lengths and of their damping norms
 unfoldable pub step_result : ReducedSystem → List Float → Float → ℕ → Float → Float → StepResult
 step_result system s damping n squared damping_norm = record {
   pose_step = s;

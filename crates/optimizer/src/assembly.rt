@@ -1,10 +1,10 @@
 // SPDX-FileCopyrightText: 2026 Pierre Moulon and OpenMVG Rust contributors
 // SPDX-License-Identifier: MIT OR Apache-2.0
 
-// The reduced system of a whole problem, from the blocks of all points: `reduced_system` of
-// kernel/two_view/optimizer.rs.
+//! The reduced system of a whole problem, from the blocks of all points: `reduced_system` of
+//! kernel/two_view/optimizer.rs.
 
-ghost use Rattle.std.specs.Prelude.{◌≡◌, true};
+ghost use Rattle.std.specs.Prelude.{◌≡◌, IsTrue};
 ghost use Rattle.schur.specs.Reduced as Reduced;
 ghost use Rattle.problem.specs.Problem as Problems;
 ghost use Rattle.problem.specs.Checks as Checks;
@@ -15,7 +15,8 @@ use problem::checks::{CheckedProblem, ReadableProblem};
 use problem::correspondences::ProblemPoint;
 use schur::reduced_system::ReducedSystem;
 
-/// A problem's system: the blocks of all points in their order, then the pose damping
+/// The reduced system of a problem: the blocks of all points, taken in in their order at the
+/// problem's damping, then the pose damping. Refuses nothing: rows 1 to 9 let the problem through.
 #[tactic(auto, unfolding(crate::specs::Assembly::reduced_system))]
 pub fn reduced_system(problem: &CheckedProblem) -> ReducedSystem
     ensures { result ≡ Assembly.reduced_system problem.now }
@@ -33,9 +34,12 @@ pub fn reduced_system(problem: &CheckedProblem) -> ReducedSystem
 #[tactic(auto, unfolding(crate::specs::Assembly::system_to))]
 pub(crate) fn add_blocks(problem: &ReadableProblem, system: &mut ReducedSystem) -> bool
     requires { system.old ≡ Reduced.new_system }
-    ensures system { system.new ≡ Assembly.system_to problem.now (Problems.count problem.now) }
-    ensures accepted { result ≡ true → Checks.AcceptsFirst problem.now (Problems.count problem.now) }
-    ensures each { Checks.AcceptsFirst problem.now (Problems.count problem.now) → result ≡ true }
+    ensures system { let p = problem.now in
+        system.new ≡ Assembly.system_to p (Problems.count p) }
+    ensures accepted { let p = problem.now in
+        IsTrue result → Checks.AcceptsFirst p (Problems.count p) }
+    ensures each { let p = problem.now in
+        Checks.AcceptsFirst p (Problems.count p) → IsTrue result }
 {
     let fitting = problem.fitting();
     let damping = problem.damping();
@@ -45,7 +49,7 @@ pub(crate) fn add_blocks(problem: &ReadableProblem, system: &mut ReducedSystem) 
         let TestedBlock {
             block,
             accepted: passes,
-        } = linearization::tested_block(&fitting.problem.rig, point.correspondence());
+        } = linearization::tested_block(fitting.rig(), point.correspondence());
         let Ok(()) = schur::take_in(system, block, damping) else {
             unreachable!()
         };

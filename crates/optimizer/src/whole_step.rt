@@ -1,8 +1,10 @@
 // SPDX-FileCopyrightText: 2026 Pierre Moulon and OpenMVG Rust contributors
 // SPDX-License-Identifier: MIT OR Apache-2.0
 
-// The whole step: checks, reduced system, solve, point steps, predicted reduction.
-ghost use Rattle.std.specs.Prelude.{◌≡◌, true, Ok};
+//! One whole step: checks, reduced system, solve, point steps, predicted reduction. `refine_impl` of
+//! kernel/two_view/optimizer.rs, from `reduced_system` to `predicted_reduction`, run once.
+
+ghost use Rattle.std.specs.Prelude.{◌≡◌, IsTrue, Ok};
 ghost use Rattle.std.specs.Result.{result_and};
 ghost use Rattle.problem.specs.Problem as Problems;
 ghost use Rattle.problem.specs.Checks as Checks;
@@ -14,12 +16,15 @@ use problem::correspondences::Problem;
 use refusal::Refusal;
 use schur::reduced_system::ReducedSystem;
 
-/// One step. Tests rows 1 to 11; refused, it leaves the room as it was.
-pub fn step(problem: &Problem, room: &mut [f64]) -> Result<StepResult, Refusal>
-    ensures { Steps.StepOutcome (Problems.of problem.now) room.old result room.new }
+/// One damped Gauss-Newton step of a problem with n points. Writes the step of each point into
+/// `point_steps` (3n numbers, in parts of the baseline) and gives the limited step of the pose with
+/// the step's figures. Refuses: rows 1 to 11 in the order of their numbers, each over all points
+/// before the next; `point_steps` then stays as it was. docs/SPECIFICATION.md, "Whole step".
+pub fn step(problem: &Problem, point_steps: &mut [f64]) -> Result<StepResult, Refusal>
+    ensures { Steps.StepOutcome problem.now point_steps.old result point_steps.new }
 {
     // Where the two lengths differ, one of them is not 3n; where they do not, row 1 tests both.
-    if room.len() != problem.points.len() {
+    if point_steps.len() != problem.points.len() {
         return Err(Refusal::Lengths);
     }
     let readable = ReadableProblem::new(problem)?;
@@ -33,14 +38,14 @@ pub fn step(problem: &Problem, room: &mut [f64]) -> Result<StepResult, Refusal>
     }
     let x = solver::solve_positive_definite(system.hessian, system.gradient)?;
     let pose_step = pose_step::negated_limited_step(x);
-    let sums = point_steps::write_steps(&checked, pose_step, room);
+    let sums = point_steps::write_steps(&checked, pose_step, point_steps);
     Ok(StepResult::of(&checked, &system, pose_step, sums))
 }
 
-// Rows 4 to 9. The points are looked at again, in the order of the rows, only where one is refused
-// or row 5 or 7 refuses.
+// The problem, checked by rows 4 to 9. The points are looked at again, in the order of the rows, only
+// where one is refused or row 5 or 7 refuses.
 fn checked(problem: ReadableProblem<'_>, accepted: bool) -> Result<CheckedProblem<'_>, Refusal>
-    requires { accepted ≡ true → Checks.AcceptsFirst problem (Problems.count problem) }
+    requires { IsTrue accepted → Checks.AcceptsFirst problem (Problems.count problem) }
     ensures { result ≡ result_and (Checks.check_problem problem.entry) (Ok problem.entry) }
 {
     if accepted && problem.passes_rows_5_and_7() {

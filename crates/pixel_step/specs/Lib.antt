@@ -1,2 +1,2 @@
--- What the calls of the C interface answer.
+-- The outcome of the list over C.
 pub mod Interface

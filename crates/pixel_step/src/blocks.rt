@@ -1,11 +1,20 @@
-// The block of one point, and how the point moves. A block is 59 numbers.
+//! The block of one point, and the point's step. A block is 59 numbers.
+
 ghost use Rattle.c_calls.specs.Outcomes as Outcomes;
 ghost use Rattle.c_calls.specs.PointCalls as Calls;
 
 use c_calls::block_calls;
 
-/// The block of a point. rig: 29; correspondence: point, view 1, view 2, inverse deviation, 8; out:
-/// a block
+/// The block of a correspondence: its part of the normal equations, from both views.
+///
+/// - `rig` (29): camera 1 (5), camera 2 (5), rotation by rows (9), translation (3), translation
+///   basis (two vectors of 3), baseline
+/// - `correspondence` (8): point (3), view 1 (2), view 2 (2), inverse standard deviation
+/// - `out` (59): pose Hessian (25), cross Hessian (15), point Hessian (9), pose gradient (5), point
+///   gradient (3), cost, squared residual
+///
+/// Refuses: row 1, then row 4, then row 9 with view 1 or 2.
+/// The formula: `c_calls::block_calls::linearize_point`.
 #[unsafe(no_mangle)]
 pub extern "C" fn pixel_step_linearize_point(
     rig: &[f64],
@@ -18,7 +27,15 @@ pub extern "C" fn pixel_step_linearize_point(
     block_calls::linearize_point(rig, correspondence, out)
 }
 
-/// How a point moves with a step of the pose. pose_step: 5; out: step 3, damping norm
+/// The step of a point that goes with a step of the pose, in units of the baseline, and its
+/// damping norm.
+///
+/// - `block` (59): laid out as by `pixel_step_linearize_point`
+/// - `pose_step` (5): rotation (3), translation (2)
+/// - `out` (4): step (3), damping norm
+///
+/// Refuses: row 1, then row 3, then row 10.
+/// The formula: `c_calls::block_calls::point_step_with_damping_norm`.
 #[unsafe(no_mangle)]
 pub extern "C" fn pixel_step_point_step_with_damping_norm(
     block: &[f64],

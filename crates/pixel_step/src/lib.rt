@@ -1,9 +1,10 @@
-// The C interface: each public call over numbers and lent slices, proved like all others.
-// `include/pixel_step.h` declares them. A slice passes as a pointer and then a length.
-//
-// A call with an `out`, or with a system that it changes, answers 0 and writes its result there, or
-// answers a refusal as one number (number + 256 · view + 65,536 · index) and writes nothing.
-// Lengths that do not fit are row 1.
+//! The C interface: each public call over numbers and lent slices, proved like all others
+//! (docs/SPECIFICATION.md, "C interface"). `include/pixel_step.h` declares them. A slice passes as
+//! a pointer and then a length.
+//!
+//! A call with an `out`, or with a system that it changes, returns 0 and writes its result there,
+//! or returns the code of a refusal (number + 256 · view + 65,536 · index) and writes nothing. A
+//! length other than the one that the call's comment names is row 1, before all other rows.
 #![tactic(auto)]
 
 pub mod blocks;

@@ -1,4 +1,6 @@
-// The number helpers.
+//! The helpers on single numbers (docs/SPECIFICATION.md, "Numbers"). Each takes every binary64 and
+//! refuses nothing.
+
 ghost use Rattle.std.specs.Prelude.{◌≡◌};
 ghost use Rattle.std.specs.Float.{float_is_finite};
 ghost use Rattle.std.specs.Float.Ieee as Ieee;
@@ -10,7 +12,7 @@ ghost use Rattle.root.specs.Root as Root;
 
 use numerics::extrema;
 
-/// The root
+/// The correctly rounded square root; NaN of a value below zero.
 #[unsafe(no_mangle)]
 pub extern "C" fn pixel_step_sqrt(x: f64) -> f64
     ensures { result ≡ Root.sqrt x }
@@ -18,7 +20,7 @@ pub extern "C" fn pixel_step_sqrt(x: f64) -> f64
     root::sqrt(x)
 }
 
-/// The value without its sign
+/// The value with its sign cleared, of a zero too.
 #[unsafe(no_mangle)]
 pub extern "C" fn pixel_step_abs(x: f64) -> f64
     ensures { result ≡ Classify.abs x }
@@ -26,7 +28,7 @@ pub extern "C" fn pixel_step_abs(x: f64) -> f64
     numerics::abs(x)
 }
 
-/// Whether it is neither infinite nor a NaN
+/// Whether the value is neither infinite nor NaN.
 #[unsafe(no_mangle)]
 pub extern "C" fn pixel_step_is_finite(x: f64) -> bool
     ensures { result ≡ float_is_finite x }
@@ -34,7 +36,7 @@ pub extern "C" fn pixel_step_is_finite(x: f64) -> bool
     numerics::is_finite(x)
 }
 
-/// 1 / x
+/// 1 / x.
 #[unsafe(no_mangle)]
 pub extern "C" fn pixel_step_recip(x: f64) -> f64
     ensures { result ≡ Binary64.recip x }
@@ -42,7 +44,7 @@ pub extern "C" fn pixel_step_recip(x: f64) -> f64
     numerics::recip(x)
 }
 
-/// The larger one; a NaN is passed over
+/// The larger value; a NaN is passed over, and of unlike zeros it is +0.
 #[unsafe(no_mangle)]
 pub extern "C" fn pixel_step_max(x: f64, y: f64) -> f64
     ensures { result ≡ Extrema.max x y }
@@ -50,7 +52,7 @@ pub extern "C" fn pixel_step_max(x: f64, y: f64) -> f64
     extrema::max(x, y)
 }
 
-/// The smaller one; a NaN is passed over
+/// The smaller value; a NaN is passed over, and of unlike zeros it is -0.
 #[unsafe(no_mangle)]
 pub extern "C" fn pixel_step_min(x: f64, y: f64) -> f64
     ensures { result ≡ Extrema.min x y }
@@ -58,7 +60,7 @@ pub extern "C" fn pixel_step_min(x: f64, y: f64) -> f64
     extrema::min(x, y)
 }
 
-/// The pattern of the number
+/// The bit pattern of a value, of a NaN 7FF8000000000000.
 #[unsafe(no_mangle)]
 pub extern "C" fn pixel_step_to_bits(x: f64) -> u64
     ensures { result ≡ Ieee.to_bits binary64 x }
@@ -66,7 +68,7 @@ pub extern "C" fn pixel_step_to_bits(x: f64) -> u64
     numerics::to_bits(x)
 }
 
-/// The number of the pattern
+/// The value of a bit pattern; every NaN pattern is the NaN.
 #[unsafe(no_mangle)]
 pub extern "C" fn pixel_step_from_bits(b: u64) -> f64
     ensures { result ≡ Ieee.of_bits binary64 b }

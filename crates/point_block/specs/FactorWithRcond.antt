@@ -1,22 +1,23 @@
--- The factor of a block at a damping, which is the Rust's `PointBlockFactor::new`, and the lone
--- factor of document 01, which tests row 3, then row 10, and has its rcond beside it.
+-- The factor of a block m at a damping, `PointBlockFactor::new` of point_block.rs, and the factor
+-- with its rcond (docs/SPECIFICATION.md, "Point block").
 use Rattle.std.specs.Prelude.{List, Float, Result}
 use Rattle.numerics.specs.Binary64.{zero}
 use Rattle.refusal.specs.declared.Refusal.{Refusal}
 use Rattle.refusal.specs.Chain.{◌>>=◌, map_ok}
-use Rattle.point_block.specs.Damping.{valid_damping, damping_diagonal_of, with_added_diagonal, damped_matrix}
+use Rattle.point_block.specs.Damping.{valid_damping, damping_diagonal_of, with_added_diagonal}
+use Rattle.point_block.specs.Damping.{damped_matrix}
 use Rattle.point_block.specs.declared.PointBlockFactor.{PointBlockFactor}
 use Rattle.point_block.specs.declared.ConditionedFactor.{ConditionedFactor}
 use Rattle.point_block.specs.Cholesky.{inverse_by}
 use Rattle.point_block.specs.Factor.{zero_factor, factor_damped}
 use Rattle.point_block.specs.Condition.{reciprocal_condition_number}
 
--- the factor of the damped matrix; it depends on the matrix and the damping alone
+-- the factor of the damped matrix, or row 10 where there is none
 unfoldable pub factor : List Float → Float → Result PointBlockFactor Refusal
 factor m damping = damped_matrix m damping >>= factor_damped
 
--- the packed inverse of the damped matrix by the formulas alone: that of the factor, where there
--- is one
+-- the packed inverse of the damped matrix by the formulas alone: that of the factor, where there is
+-- one
 abbrev pub inverse_at : List Float → Float → List Float
 inverse_at m damping =
     let damped = with_added_diagonal m damping (damping_diagonal_of m) in
@@ -26,8 +27,12 @@ inverse_at m damping =
 abbrev pub zero_conditioned_factor : ConditionedFactor
 zero_conditioned_factor = record { factor = zero_factor; rcond = zero }
 
--- the rcond is that of the matrix as handed in, undamped
+-- Row 3, then row 10, then the factor with its rcond, which is that of the damped matrix's inverse
+-- and of m as it is, undamped.
 unfoldable pub factor_with_rcond : List Float → Float → Result ConditionedFactor Refusal
 factor_with_rcond m damping =
-    valid_damping damping
-    >>= (λ d. map_ok (λ f. record { factor = f; rcond = reciprocal_condition_number f.inverse m }) (factor m d))
+    let with_rcond : PointBlockFactor → ConditionedFactor = λ f. record {
+      factor = f;
+      rcond = reciprocal_condition_number f.inverse m;
+    } in
+    valid_damping damping >>= (λ d. map_ok with_rcond (factor m d))

@@ -1,13 +1,13 @@
 // SPDX-FileCopyrightText: 2026 Pierre Moulon and OpenMVG Rust contributors
 // SPDX-License-Identifier: MIT OR Apache-2.0
 
-// The scaled Cholesky factor of a symmetric 3 by 3 block: `factor_damped` of
-// kernel/point_block.rs. A matrix is nine numbers, row by row.
+//! The scaled Cholesky factor of a symmetric 3 by 3 block: the arithmetic of `factor_damped` of
+//! kernel/point_block.rs. A matrix is nine numbers, row by row.
 
 ghost use Rattle.std.specs.Prelude.{◌≡◌};
 ghost use Rattle.point_block.specs.Cholesky as Cholesky;
 
-// The Jacobi scale: the roots of a diagonal
+// The Jacobi scale: the roots of the three entries of a diagonal
 #[derive(Clone, Copy)]
 struct Scale {
     s0: f64,
@@ -15,7 +15,7 @@ struct Scale {
     s2: f64,
 }
 
-// A lower triangle, by row and column
+// A lower triangle: `e21` is the entry of row 2 and column 1.
 #[derive(Clone, Copy)]
 struct Lower {
     e00: f64,
@@ -26,7 +26,8 @@ struct Lower {
     e22: f64,
 }
 
-// The pivots before their roots, and the lower triangle
+// The lower triangle L of the scaled matrix L Lᵀ, and its pivots, which are the squares of L's
+// diagonal before their roots are taken
 #[derive(Clone, Copy)]
 struct Factor {
     p0: f64,
@@ -35,15 +36,15 @@ struct Factor {
     lower: Lower,
 }
 
-// The inverse of a matrix by its Cholesky factor, which is worked out at the scale of the roots of
-// d: packed lower triangle, 00, 10, 11, 20, 21, 22. None where a pivot is not good.
+// The inverse of m by its Cholesky factor at the scale of the roots of d, packed: 00, 10, 11, 20,
+// 21, 22. None where a pivot is not valid.
 #[tactic(auto, unfolding(crate::specs::Cholesky::invert, crate::specs::Cholesky::inverse_by))]
 #[inline(always)]
 pub(crate) fn invert(m: [f64; 9], d: [f64; 3]) -> Option<[f64; 6]>
     ensures { result ≡ Cholesky.invert m d }
 {
     let scale = scale_of(d);
-    let factor = cholesky_of(scaled_of(m, scale));
+    let factor = cholesky_of(scaled_lower(m, scale));
     if !has_valid_pivots(factor) {
         return None;
     }
@@ -61,9 +62,10 @@ fn scale_of(d: [f64; 3]) -> Scale
     }
 }
 
-// The lower triangle of the scaled matrix, made symmetric
-fn scaled_of(m: [f64; 9], s: Scale) -> Lower
-    ensures { result ≡ Cholesky.scaled_of m s }
+// The lower triangle of the scaled matrix. It is made symmetric: an entry is the mean of the two
+// that mirror each other.
+fn scaled_lower(m: [f64; 9], s: Scale) -> Lower
+    ensures { result ≡ Cholesky.scaled_lower m s }
 {
     Lower {
         e00: 0.5 * (m[0] + m[0]) / (s.s0 * s.s0),
@@ -75,6 +77,8 @@ fn scaled_of(m: [f64; 9], s: Scale) -> Lower
     }
 }
 
+// The factor of a scaled matrix: where a pivot is not valid the entries after it are worked out all
+// the same, and are not used.
 #[tactic(auto, unfolding(crate::specs::Cholesky::cholesky_of))]
 fn cholesky_of(a: Lower) -> Factor
     ensures { result ≡ Cholesky.cholesky_of a }
@@ -103,6 +107,7 @@ fn cholesky_of(a: Lower) -> Factor
     }
 }
 
+// Finite and above 64ε
 fn is_valid_pivot(p: f64) -> bool
     ensures { result ≡ Cholesky.is_valid_pivot p }
 {
@@ -116,8 +121,8 @@ fn has_valid_pivots(c: Factor) -> bool
     is_valid_pivot(c.p0) & is_valid_pivot(c.p1) & is_valid_pivot(c.p2)
 }
 
-// The block's inverse from its lower triangle and its scale: M is the triangle's inverse, the
-// scaled inverse is Mᵀ M, and the scale is taken out on both sides.
+// The block's inverse D (Mᵀ M) D: M is the inverse of the lower triangle, and D has the reciprocals
+// of the scale on its diagonal.
 #[tactic(auto, unfolding(crate::specs::Cholesky::inverse_of))]
 fn inverse_of(l: Lower, s: Scale) -> [f64; 6]
     ensures { result ≡ Cholesky.inverse_of l s }

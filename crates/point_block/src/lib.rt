@@ -1,7 +1,7 @@
 // SPDX-FileCopyrightText: 2026 Pierre Moulon and OpenMVG Rust contributors
 // SPDX-License-Identifier: MIT OR Apache-2.0
 
-//! Scaled Cholesky factorization for symmetric 3 by 3 point blocks: kernel/point_block.rs. A matrix
+//! Scaled Cholesky factorization of symmetric 3 by 3 point blocks: kernel/point_block.rs. A matrix
 //! is nine numbers, row by row; `cholesky` has the arithmetic of the factor, `point_damping` the
 //! damping.
 //!
@@ -22,26 +22,30 @@ use numerics::extrema;
 use point_damping::ValidDamping;
 use refusal::Refusal;
 
-// The inverse of a symmetric 3 by 3 block, packed lower triangle: 00, 10, 11, 20, 21, 22
+/// The factor of a symmetric 3 by 3 block, kept as the block's inverse
 #[derive(Clone, Copy)]
 pub struct PointBlockFactor {
+    /// The lower triangle of the inverse: the entries 00, 10, 11, 20, 21, 22, none of them tested
     pub inverse: [f64; 6],
 }
 
-// A factor with its rcond: document 01's lone factor
+/// A factor with the reciprocal condition number that goes with it
 #[derive(Clone, Copy)]
 pub struct ConditionedFactor {
     pub factor: PointBlockFactor,
+    /// 1 ÷ (norm of the undamped matrix × norm of the inverse), or +0; never below 0, never a NaN
     pub rcond: f64,
 }
 
 impl PointBlockFactor {
-    /// The factor with its rcond. Tests row 3, then row 10.
+    /// The factor of the matrix at a damping, with its rcond, which is worked out with the matrix
+    /// as it is handed in, undamped. Refuses: row 3, then row 10.
     #[tactic(auto, unfolding(crate::specs::FactorWithRcond::factor_with_rcond))]
     pub fn factor_with_rcond(matrix: [f64; 9], damping: f64) -> Result<ConditionedFactor, Refusal>
         ensures result { result ≡ FactorWithRcond.factor_with_rcond matrix damping }
         ensures outcome { outcome FactorWithRcond.zero_conditioned_factor result
-            ≡ outcome FactorWithRcond.zero_conditioned_factor (FactorWithRcond.factor_with_rcond matrix damping) }
+            ≡ outcome FactorWithRcond.zero_conditioned_factor
+            (FactorWithRcond.factor_with_rcond matrix damping) }
     {
         let damping = ValidDamping::new(damping)?;
         let factor = Self::new(matrix, damping)?;
@@ -49,7 +53,9 @@ impl PointBlockFactor {
         Ok(ConditionedFactor { factor, rcond })
     }
 
-    /// The factor of the matrix at a damping, which is the Rust's `new`. Tests row 10.
+    /// The factor of the matrix at a damping: the Rust's `PointBlockFactor::new`. Refuses: row 10
+    /// where the largest diagonal entry is not positive and finite, or a scaled pivot is not finite
+    /// or not above 64ε.
     #[tactic(auto, unfolding(crate::specs::FactorWithRcond::factor))]
     #[inline(always)]
     pub fn new(matrix: [f64; 9], damping: ValidDamping) -> Result<Self, Refusal>
@@ -60,7 +66,8 @@ impl PointBlockFactor {
         Self::factor_damped(point_damping::damped_matrix(matrix, damping)?)
     }
 
-    /// The factor of a matrix that is damped already. Tests row 10.
+    /// The factor of a matrix that is damped already: the Rust's `factor_damped`. Refuses: row 10
+    /// where a scaled pivot is not finite or not above 64ε.
     #[tactic(auto, unfolding(crate::specs::Factor::factor_damped))]
     #[inline(always)]
     pub fn factor_damped(damped: [f64; 9]) -> Result<Self, Refusal>
@@ -73,6 +80,7 @@ impl PointBlockFactor {
         Ok(Self { inverse })
     }
 
+    /// The inverse times a vector: the Rust's `solve`
     #[inline(always)]
     pub fn solve(self, x: [f64; 3]) -> [f64; 3]
         ensures { result ≡ Factor.solve self.inverse x }
@@ -91,8 +99,9 @@ impl PointBlockFactor {
         ]
     }
 
-    // 1 ÷ (norm of the matrix × norm of the inverse), and 0 where that product is not
-    // positive and finite.
+    /// The reciprocal condition number in the infinity norm, the Rust's
+    /// `reciprocal_condition_number`: 1 ÷ (norm of the matrix × norm of the inverse), or +0 where
+    /// that product is not positive and finite
     #[tactic(auto, unfolding(crate::specs::Condition::reciprocal_condition_number))]
     #[inline(always)]
     pub fn reciprocal_condition_number(self, matrix: [f64; 9]) -> f64
@@ -106,7 +115,8 @@ impl PointBlockFactor {
         }
     }
 
-    // The inverse by columns, so that ∞ × 0 in a solve shows.
+    // The inverse as nine numbers, column by column: a solve with a unit vector shows ∞ × 0, which
+    // the six stored numbers do not.
     #[tactic(auto, unfolding(crate::specs::Condition::inverse_matrix))]
     fn inverse_matrix(self) -> [f64; 9]
         ensures { result ≡ Condition.inverse_matrix self.inverse }
@@ -118,14 +128,14 @@ impl PointBlockFactor {
     }
 }
 
-// Whether a block that factors at damping zero is weak, by its rcond
+/// Whether a block that factors at damping zero is weak, by its rcond: at or below 192ε
 pub fn is_weak(rcond: f64) -> bool
     ensures { result ≡ Condition.is_weak rcond }
 {
     rcond <= numerics::POINT_BLOCK_RCOND_THRESHOLD
 }
 
-// The largest sum of a row's absolute values; each sum begins at −0.
+// The largest sum of a row's absolute values; a sum that is a NaN is passed over.
 #[tactic(auto, unfolding(crate::specs::Condition::infinity_norm))]
 fn infinity_norm(m: [f64; 9]) -> f64
     ensures { result ≡ Condition.infinity_norm m }
@@ -137,6 +147,7 @@ fn infinity_norm(m: [f64; 9]) -> f64
     ])
 }
 
+// |x| + |y| + |z|, from −0
 fn row_norm(x: f64, y: f64, z: f64) -> f64
     ensures { result ≡ Condition.row_norm x y z }
 {

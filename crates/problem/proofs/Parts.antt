@@ -17,10 +17,14 @@ use Rattle.refusal.specs.declared.Refusal.{Refusal}
 use Rattle.refusal.specs.declared.Refusal.TheVariants.{PointNotProjectable}
 use Rattle.refusal.specs.declared.View.{View}
 use Rattle.refusal.specs.declared.View.TheVariants.{First, Second}
-use Rattle.refusal.proofs.Scans.{Scanned}
+use Rattle.refusal.proofs.Scans.{Scanned, leaves, goes_on, ends}
 use Rattle.projection.specs.declared.Projection.{Projection}
+use Rattle.linearization.specs.declared.views.Rig.{Rig}
 use Rattle.problem.specs.Problem.{Problem, triple, observation, project}
 use Rattle.problem.specs.Checks.{check_view, check_projection}
+
+-- how a loop over indexes meets a scan for the first refusal
+pub ruleset scans = (leaves, goes_on, ends)
 
 -- by quotient and remainder
 pub multiple : (l e n : ℕ) → 0 < e → (eqb (l / e) n && eqb (l % e) 0) ≡ eqb l (e * n)
@@ -61,7 +65,7 @@ unfolding first_refusal_from
 views_begin p i = (omega arith, none_after (check_view p i First) (check_view p i Second))
 
 -- what a view's test says of its check
-pub seen_check : (p : Problem) (i k : ℕ) (view : View) (seen point : List Float) (r : Result Projection Refusal) (good : Bool) → view ≡ get_or views k First
-    → seen ≡ observation p.view1 p.view2 view i → point ≡ triple p.points i → r ≡ project p.rig view seen point → is_ok r ≡ good
+pub seen_check : (p : Problem) (i k : ℕ) (view : View) (rig : Rig) (seen point : List Float) (r : Result Projection Refusal) (good : Bool) → view ≡ get_or views k First
+    → seen ≡ observation p.view1 p.view2 view i → point ≡ triple p.points i → rig ≡ p.rig → r ≡ project rig view seen point → is_ok r ≡ good
     → check_at p i k ≡ refuse_unless good (PointNotProjectable view i)
-seen_check p i k view seen point r good v a b c d = rw (← d, ← v, c, a, b) refl
+seen_check p i k view rig seen point r good v a b e c d = rw (← d, ← v, c, a, b, e) refl

@@ -1,9 +1,9 @@
 -- What rows 1 to 9 leave. Assumes nothing.
-use mathlib.Core.Path.{◌≡◌, refl, sym, subst, ◌∙◌}
+use mathlib.Core.Path.{◌≡◌, refl, ◌∙◌}
 use mathlib.Core.Bool.{true, ◌&&◌}
 use Prim.Native.Nat.{ℕ, ◌*◌, ◌≤◌, ◌<◌}
 use borrow.Author.Tests.{eqb-true, leb-true, eq-eqb}
-use lib.Dec.{T, eqb, leb, le→leb}
+use lib.Dec.{eqb, leb, le→leb}
 use Rattle.std.specs.Prelude.{Ok, Err, is_ok}
 use Rattle.std.specs.Result.{result_and}
 use lib.Ieee.Bits.{is_true}
@@ -49,7 +49,7 @@ passed p e =
     let view1 = after_ok (first_refusal_from (check_observation p First) 0 (count p)) _ few.1 in
     let view2 = after_ok (first_refusal_from (check_observation p Second) 0 (count p)) _ view1.1 in
     record {
-      fits = all_fit _ _ _ _ (held (has_matching_lengths p) Lengths lengths.0) (held (leb (count p) max_points) TooManyPoints points.0);
+      fits = let f = all_fit _ _ _ _ (held (has_matching_lengths p) Lengths lengths.0) (held (leb (count p) max_points) TooManyPoints points.0) in record { points = f.0; view1 = f.1; view2 = f.2; most = f.3 };
       damping = held (is_valid_damping p.damping) Damping damping.0;
       inverse_standard_deviations = inverse_standard_deviations.0;
       projections = view2.1;
@@ -82,7 +82,7 @@ refused_first p e = by (refuse_unless (has_matching_lengths p) Lengths) (refuse_
 -- where the lengths fit, rows 3 to 9 decide
 pub fitting_check : (p : Problem) → HasMatchingLengths p → check_problem p ≡ check_values p
 unfolding check_problem
-fitting_check p f = rw (eq-eqb _ _ f.0, eq-eqb _ _ f.1, eq-eqb _ _ f.2, is_true _ (le→leb _ _ f.3)) refl
+fitting_check p f = rw (eq-eqb _ _ f.points, eq-eqb _ _ f.view1, eq-eqb _ _ f.view2, is_true _ (le→leb _ _ f.most)) refl
 
 -- A problem whose points need not be looked at again: rows 1 to 3, 5 and 7 let it through, and
 -- rows 4 and 9 each point by itself.

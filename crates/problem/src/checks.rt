@@ -1,12 +1,12 @@
 // SPDX-FileCopyrightText: 2026 Pierre Moulon and OpenMVG Rust contributors
 // SPDX-License-Identifier: MIT OR Apache-2.0
 
-// Rows 1 to 9 of a two-view problem over lent memory, which look at no sum:
-// kernel/two_view/optimizer.rs, residual.rs.
+//! Rows 1 to 9 of a two-view problem over lent memory, the rows that look at no sum: what
+//! `refine_impl` of kernel/two_view/optimizer.rs and `project` of residual.rs ask of their inputs.
 
 ghost use Rattle.std.specs.Prelude.{◌≡◌, ◌<◌, ◌*◌, ◌&&◌, ◌==◌, nat_le, true, Ok, IsTrue};
 ghost use Rattle.std.specs.Result.{result_and};
-ghost use Rattle.refusal.specs.FirstRefusal as FirstRefusal;
+ghost use Rattle.refusal.specs.FirstRefusal.{first_refusal_from};
 ghost use Rattle.point_block.specs.Damping.{is_valid_damping};
 ghost use Rattle.problem.specs.Problem as Problems;
 ghost use Rattle.problem.specs.Checks as Checks;
@@ -19,13 +19,15 @@ use point_block::point_damping::ValidDamping;
 use refusal::{Refusal, View};
 use std::marker::Model;
 
+// Row 7 refuses fewer points.
 const MINIMUM_POINTS: u32 = 5;
 
-// Row 2
+// Row 2 refuses more points.
 const MAXIMUM_POINTS: usize = 65535;
 
-/// A problem that rows 1 to 3 let through, row 1 without the room: its points can be read, and a
-/// system can take their blocks in at its damping.
+/// A problem that rows 1 to 3 let through: its points can be read, and a system can take their
+/// blocks in at its damping. Row 1 looks at the four inputs alone, and not at the memory for the
+/// point steps. In clauses it is the record `Problem`.
 #[derive(Drop)]
 pub struct ReadableProblem<'a> {
     fitting: FittingProblem<'a>,
@@ -35,18 +37,20 @@ pub struct ReadableProblem<'a> {
 impl<'a> Model for ReadableProblem<'a> {
     ghost use Rattle.std.specs.Prelude.{◌≡◌, IsTrue};
     ghost use Rattle.point_block.specs.Damping.{is_valid_damping};
-    ghost use Rattle.problem.specs.Problem.{Problem, of};
+    ghost use Rattle.problem.specs.Problem.{Problem};
 
     ghost Value = { Problem };
 
-    ghost view = { λ r. of r.fitting.problem.now };
+    ghost view = { λ r. r.fitting };
 
-    ghost invariant = { λ r. (r.damping ≡ r.fitting.problem.now.damping) × IsTrue (is_valid_damping r.damping) };
+    ghost invariant = { λ r. (r.damping ≡ r.fitting.damping)
+        × IsTrue (is_valid_damping r.damping) };
 }
 
-/// A problem that rows 1 to 9 let through, row 1 without the room
+/// A problem that rows 1 to 9 let through. In clauses it is the record `Problem`.
 #[derive(Drop)]
 pub struct CheckedProblem<'a> {
+    /// The same problem, as rows 1 to 3 let it through
     pub readable: ReadableProblem<'a>,
 }
 
@@ -63,11 +67,10 @@ impl<'a> Model for CheckedProblem<'a> {
 }
 
 impl<'a> ReadableProblem<'a> {
-    /// Tests rows 1 to 3, row 1 without the room.
+    /// The problem, as one whose points can be read. Refuses: row 1, row 2, then row 3.
     #[tactic(auto, unfolding(crate::specs::Checks::check_readable))]
     pub fn new(problem: &'a Problem<'a>) -> Result<ReadableProblem<'a>, Refusal>
-        ensures { result ≡ result_and (Checks.check_readable (Problems.of problem.now))
-            (Ok (Problems.of problem.now)) }
+        ensures { result ≡ result_and (Checks.check_readable problem.now) (Ok problem.now) }
     {
         let n = problem.count();
         let fit = belongs(problem.points.len(), 3, n)
@@ -85,21 +88,22 @@ impl<'a> ReadableProblem<'a> {
     }
 
     /// The problem as one whose lengths fit
-    pub fn fitting(&self) -> FittingProblem<'a>
-        ensures { Problems.of result.problem.now ≡ self.now }
+    pub fn fitting(&self) -> &FittingProblem<'a>
+        ensures { result.now ≡ self.now }
     {
-        self.fitting
+        &self.fitting
     }
 
-    /// The problem's damping
+    /// The problem's damping λ, finite and not below 0
     pub fn damping(&self) -> ValidDamping
         ensures { result ≡ self.now.damping }
     {
         self.damping
     }
 
-    /// Whether rows 5 and 7 let it through, which look at no point. Where rows 4 and 9 let each
-    /// point through as well, so do rows 1 to 9.
+    /// Whether rows 5 and 7, which look at no point, let the problem through. Where rows 4 and 9
+    /// let each point through as well, by themselves, so do rows 1 to 9 as a whole: rows 6 and 8
+    /// are then settled by row 9.
     #[tactic(auto, using(crate::proofs::Passed::accepted_passes))]
     pub fn passes_rows_5_and_7(&self) -> bool
         ensures rows { result ≡ (Checks.is_valid_baseline self.now.rig.pose.baseline
@@ -107,22 +111,23 @@ impl<'a> ReadableProblem<'a> {
         ensures passes { result ≡ true → Checks.AcceptsFirst self.now (Problems.count self.now)
             → Checks.check_problem self.now ≡ Ok tt }
     {
-        is_valid_baseline(self.fitting.problem.rig.pose.baseline)
+        is_valid_baseline(self.fitting.rig().pose.baseline)
             & (self.fitting.count() >= MINIMUM_POINTS)
     }
 }
 
 impl<'a> CheckedProblem<'a> {
-    /// Tests rows 1 to 9, row 1 without the room.
+    /// The problem, checked. Refuses: rows 1 to 9 in the order of their numbers, each over all
+    /// points before the next.
     #[tactic(auto, using(crate::proofs::Passed::refused_first))]
     pub fn new(problem: &'a Problem<'a>) -> Result<CheckedProblem<'a>, Refusal>
-        ensures { result ≡ result_and (Checks.check_problem (Problems.of problem.now))
-            (Ok (Problems.of problem.now)) }
+        ensures { result ≡ result_and (Checks.check_problem problem.now) (Ok problem.now) }
     {
         Self::of(ReadableProblem::new(problem)?)
     }
 
-    /// Tests rows 4 to 9, in their order.
+    /// A readable problem, checked. Refuses: rows 4 to 9 in the order of their numbers, each over
+    /// all points before the next.
     #[tactic(auto, using(crate::proofs::Passed::fitting_check))]
     pub fn of(readable: ReadableProblem<'a>) -> Result<CheckedProblem<'a>, Refusal>
         ensures { result ≡ result_and (Checks.check_problem readable.entry) (Ok readable.entry) }
@@ -132,14 +137,14 @@ impl<'a> CheckedProblem<'a> {
     }
 
     /// The problem as one whose lengths fit
-    pub fn fitting(&self) -> FittingProblem<'a>
-        ensures problem { Problems.of result.problem.now ≡ self.now }
+    pub fn fitting(&self) -> &FittingProblem<'a>
+        ensures problem { result.now ≡ self.now }
         ensures checked { Checks.check_problem self.now ≡ Ok tt }
     {
         self.readable.fitting()
     }
 
-    /// The problem's damping
+    /// The problem's damping λ, finite and not below 0
     pub fn damping(&self) -> ValidDamping
         ensures { result ≡ self.now.damping }
     {
@@ -147,23 +152,23 @@ impl<'a> CheckedProblem<'a> {
     }
 }
 
-// Whether a length is n times a number, by no product that could wrap
+// Whether a length is each · n, by no product that could wrap
 #[tactic(auto, using(crate::proofs::Parts::multiple))]
 fn belongs(length: usize, each: usize, n: usize) -> bool
     requires { 0 < each }
-    ensures { result ≡ (length == (each * n)) }
+    ensures { result ≡ (length == each * n) }
 {
     length / each == n && length % each == 0
 }
 
 // Rows 4 to 9, where row 3 lets the damping through
 #[tactic(auto, unfolding(crate::specs::Checks::check_values))]
-fn check_values(fitting: FittingProblem) -> Result<(), Refusal>
-    requires { IsTrue (is_valid_damping fitting.problem.now.damping) }
-    ensures { result ≡ Checks.check_values (Problems.of fitting.entry.problem.now) }
+fn check_values(fitting: &FittingProblem) -> Result<(), Refusal>
+    requires { IsTrue (is_valid_damping fitting.now.damping) }
+    ensures { result ≡ Checks.check_values fitting.now }
 {
     check_inverse_standard_deviations(fitting)?;
-    if !is_valid_baseline(fitting.problem.rig.pose.baseline) {
+    if !is_valid_baseline(fitting.rig().pose.baseline) {
         return Err(Refusal::Baseline);
     }
     check_points(fitting)?;
@@ -173,18 +178,15 @@ fn check_values(fitting: FittingProblem) -> Result<(), Refusal>
     check_both_views(fitting)
 }
 
-// Row 4
-#[tactic(auto, using(refusal::proofs::Scans::leaves, refusal::proofs::Scans::goes_on, refusal::proofs::Scans::ends))]
-fn check_inverse_standard_deviations(fitting: FittingProblem) -> Result<(), Refusal>
-    ensures { result ≡ FirstRefusal.first_refusal_from (Checks.check_inverse_standard_deviation (Problems.of fitting.entry.problem.now).inverse_standard_deviations) 0
-        (Problems.count (Problems.of fitting.entry.problem.now)) }
+// Row 4, over all points
+#[tactic(auto, using(crate::proofs::Parts::scans))]
+fn check_inverse_standard_deviations(fitting: &FittingProblem) -> Result<(), Refusal>
+    ensures { let p = fitting.now in
+        let check = Checks.check_inverse_standard_deviation p.inverse_standard_deviations in
+        result ≡ first_refusal_from check 0 (Problems.count p) }
 {
-    for (i, x) in fitting
-        .problem
-        .inverse_standard_deviations
-        .iter()
-        .enumerate()
-    {
+    let problem = fitting.problem;
+    for (i, x) in problem.inverse_standard_deviations.iter().enumerate() {
         if !views::is_valid_inverse_standard_deviation(*x) {
             return Err(Refusal::InverseStandardDeviation { index: i as u32 });
         }
@@ -200,11 +202,11 @@ fn is_valid_baseline(baseline: f64) -> bool
     numerics::is_finite(baseline) && !(baseline <= numerics::RELATIVE_TOLERANCE)
 }
 
-// Row 6
-#[tactic(auto, using(refusal::proofs::Scans::leaves, refusal::proofs::Scans::goes_on, refusal::proofs::Scans::ends))]
-fn check_points(fitting: FittingProblem) -> Result<(), Refusal>
-    ensures { result ≡ FirstRefusal.first_refusal_from (Checks.check_point (Problems.of fitting.entry.problem.now).points) 0
-        (Problems.count (Problems.of fitting.entry.problem.now)) }
+// Row 6, over all points
+#[tactic(auto, using(crate::proofs::Parts::scans))]
+fn check_points(fitting: &FittingProblem) -> Result<(), Refusal>
+    ensures { let p = fitting.now in
+        result ≡ first_refusal_from (Checks.check_point p.points) 0 (Problems.count p) }
 {
     for index in 0..fitting.count() {
         let point = ProblemPoint { fitting, index };
@@ -215,21 +217,21 @@ fn check_points(fitting: FittingProblem) -> Result<(), Refusal>
     Ok(())
 }
 
-// Rows 8 and 9
+// Row 8 in view 1, row 8 in view 2, then row 9
 #[tactic(auto, unfolding(crate::specs::Checks::check_both_views))]
-fn check_both_views(fitting: FittingProblem) -> Result<(), Refusal>
-    ensures { result ≡ Checks.check_both_views (Problems.of fitting.entry.problem.now) }
+fn check_both_views(fitting: &FittingProblem) -> Result<(), Refusal>
+    ensures { result ≡ Checks.check_both_views fitting.now }
 {
     check_view(fitting, View::First)?;
     check_view(fitting, View::Second)?;
     check_projections(fitting)
 }
 
-// Row 8 for one view
-#[tactic(auto, using(refusal::proofs::Scans::leaves, refusal::proofs::Scans::goes_on, refusal::proofs::Scans::ends))]
-fn check_view(fitting: FittingProblem, view: View) -> Result<(), Refusal>
-    ensures { result ≡ FirstRefusal.first_refusal_from (Checks.check_observation (Problems.of fitting.entry.problem.now) view) 0
-        (Problems.count (Problems.of fitting.entry.problem.now)) }
+// Row 8, over all points in one view
+#[tactic(auto, using(crate::proofs::Parts::scans))]
+fn check_view(fitting: &FittingProblem, view: View) -> Result<(), Refusal>
+    ensures { let p = fitting.now in
+        result ≡ first_refusal_from (Checks.check_observation p view) 0 (Problems.count p) }
 {
     for index in 0..fitting.count() {
         let point = ProblemPoint { fitting, index };
@@ -240,18 +242,18 @@ fn check_view(fitting: FittingProblem, view: View) -> Result<(), Refusal>
     Ok(())
 }
 
-// Row 9: both loops are left at the first view that does not project.
-#[tactic(auto, using(refusal::proofs::Scans::leaves, refusal::proofs::Scans::goes_on, refusal::proofs::Scans::ends))]
-fn check_projections(fitting: FittingProblem) -> Result<(), Refusal>
-    ensures { result ≡ FirstRefusal.first_refusal_from (Checks.check_projection (Problems.of fitting.entry.problem.now)) 0
-        (Problems.count (Problems.of fitting.entry.problem.now)) }
+// Row 9, point by point in both views: the loops are left at the first projection that fails.
+#[tactic(auto, using(crate::proofs::Parts::scans))]
+fn check_projections(fitting: &FittingProblem) -> Result<(), Refusal>
+    ensures { let p = fitting.now in
+        result ≡ first_refusal_from (Checks.check_projection p) 0 (Problems.count p) }
 {
     let mut checked = Ok(());
     'points: for index in 0..fitting.count() {
         let point = ProblemPoint { fitting, index };
         'views: for view in [View::First, View::Second] {
             let projected = correspondences::project(
-                &fitting.problem.rig,
+                fitting.rig(),
                 view,
                 point.seen(view),
                 point.coordinates(),

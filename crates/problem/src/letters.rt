@@ -1,4 +1,4 @@
-// The letter that a list gives a point: document 01, "Run record and its list".
+//! The letter that a list gives a point, by how its block factors: docs/SPECIFICATION.md, "List".
 
 ghost use Rattle.std.specs.Prelude.{◌≡◌};
 ghost use Rattle.problem.specs.Letters as Letters;
@@ -11,15 +11,16 @@ use point_block::point_damping::ValidDamping;
 #[derive(Clone, Copy, Debug, PartialEq, Eq)]
 enum BlockQuality {
     NotFactored,
-    // at damping zero, with an rcond of at most 192ε
+    // At damping zero, with a reciprocal condition number of at most 192ε
     Weak,
-    // at damping zero, with an rcond above that
+    // At damping zero, with one above that
     Good,
-    // at another damping
+    // At another damping
     Factored,
 }
 
 impl BlockQuality {
+    // The quality of a block's point Hessian at a damping
     #[tactic(auto, unfolding(crate::specs::Letters::quality_of))]
     fn of(local: LocalLinearization, damping: ValidDamping) -> Self
         ensures { result ≡ Letters.quality_of local damping }
@@ -37,6 +38,7 @@ impl BlockQuality {
         }
     }
 
+    // Its letter, in ASCII
     fn byte(self) -> u8
         ensures { result ≡ Letters.letter_byte self }
     {
@@ -49,9 +51,9 @@ impl BlockQuality {
     }
 }
 
-/// The letter of a block at a damping: `n` does not factor; at damping zero `w` is weak and `g`
-/// good; at
-/// other dampings `f` factors.
+/// The letter of a block at a damping. `n`: it does not factor. At damping zero, `w`: it factors
+/// with a reciprocal condition number of at most 192ε; `g`: with one above that. `f`: it factors
+/// at another damping.
 #[tactic(auto, unfolding(crate::specs::Letters::letter_of))]
 pub fn letter_of(local: LocalLinearization, damping: ValidDamping) -> u8
     ensures { result ≡ Letters.letter_of local damping }

@@ -1,4 +1,5 @@
-//! What the programs share: reading whole, and printing patterns.
+//! What the programs share: reading a file or the input whole, printing bit patterns, and printing
+//! the list of a run record.
 #![tactic(auto)]
 
 pub mod lists;

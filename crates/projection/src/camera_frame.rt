@@ -1,21 +1,21 @@
 // SPDX-FileCopyrightText: 2026 Pierre Moulon and OpenMVG Rust contributors
 // SPDX-License-Identifier: MIT OR Apache-2.0
 
-// A point in the second camera's frame: turned, then moved, as in `linearize_point` of
-// kernel/two_view/schur.rs.
+//! A point in the second camera's frame: rotated, then moved by the translation, as in
+//! `linearize_point` of kernel/two_view/schur.rs.
 
 ghost use Rattle.std.specs.Prelude.{◌≡◌};
 ghost use Rattle.projection.specs.CameraFrame as CameraFrame;
 
 use std::array;
 
-/// A rotation or a translation with an entry that is not finite makes the second view one in which
-/// no point is projectable, whatever the camera and the observation. A theorem: nothing runs.
+/// Where an entry of the rotation or of the translation is not finite, row 9 meets every point in
+/// the second view, whatever the camera and the observation. A theorem: nothing runs.
 pub fn non_finite_pose_is_not_projectable()
     ensures { CameraFrame.NonFinitePoseIsNotProjectable }
 {}
 
-/// The point turned by the rotation, which is given by rows.
+/// The rotation times the point; the rotation is nine numbers, row by row.
 #[tactic(auto, unfolding(crate::specs::CameraFrame::rotate))]
 #[inline(always)]
 pub fn rotate(rotation: [f64; 9], point: [f64; 3]) -> [f64; 3]
@@ -27,7 +27,7 @@ pub fn rotate(rotation: [f64; 9], point: [f64; 3]) -> [f64; 3]
     })
 }
 
-/// The rotated point in the second camera's frame.
+/// A rotated point moved by the translation: the point in the second camera's frame
 #[tactic(auto, unfolding(crate::specs::CameraFrame::camera_point))]
 #[inline(always)]
 pub fn camera_point(rotated: [f64; 3], translation: [f64; 3]) -> [f64; 3]

@@ -5,13 +5,13 @@
 //! `PinholeCamera` of kernel/camera.rs, and a point's place in the second camera's frame.
 //!
 //! `pixel_projection` gives the residual and the Jacobian of a point, or refuses it;
-//! `tested_projection` gives them by the formulas alone, beside whether they are refused. `rotate`
-//! and `camera_point` move a point into the second camera's frame.
+//! `tested_projection` gives them by the formulas alone, beside whether they are let through.
+//! `rotate` and `camera_point` move a point into the second camera's frame.
 //!
 //! All of it is inlined into the loops over points, so that a camera, a point and what becomes of
 //! it stay in registers: of a chain of calls that hand arrays on, every link has to be.
-//! `pixel_projection` is called where a row is looked for and over C, and not in these loops; inlined
-//! there it hands its `Result` on without a copy.
+//! `pixel_projection` is called where a row is looked for and over C, and not in these loops;
+//! inlined there it hands its `Result` on without a copy.
 #![tactic(auto)]
 
 mod camera_frame;
@@ -24,20 +24,27 @@ ghost use Rattle.projection.specs.PixelProjection.{zero_projection};
 pub use camera_frame::{camera_point, non_finite_pose_is_not_projectable, rotate};
 use refusal::Refusal;
 
-/// A camera without distortion, in pixels: the focal lengths, the principal point and the skew.
+/// A camera without distortion: `PinholeCamera` of kernel/camera.rs. All five are in pixels.
 #[derive(Clone, Copy)]
 pub struct PinholeCamera {
+    /// The focal length along x
     pub fx: f64,
+    /// The focal length along y
     pub fy: f64,
+    /// The principal point's x
     pub cx: f64,
+    /// The principal point's y
     pub cy: f64,
+    /// What y adds to the pixel's x
     pub skew: f64,
 }
 
-/// The residual, and its derivative by the point in the camera's frame: two rows of three.
+/// What a point's projection is off by, and how that moves with the point
 #[derive(Clone, Copy)]
 pub struct Projection {
+    /// The projected point less the observed one, in pixels
     pub residual: [f64; 2],
+    /// The residual's derivative by the point in the camera's frame: two rows of three
     pub jacobian: [f64; 6],
 }
 
@@ -49,10 +56,10 @@ pub struct TestedProjection {
     pub projectable: bool,
 }
 
-/// The projection of a point in the camera's frame, less what was observed, and its Jacobian.
-/// Refused with row 9 where a coordinate is not finite, where the depth is not above 64ε of the
-/// largest absolute coordinate, and where an entry of the residual or of the Jacobian is not
-/// finite.
+/// The projection of a point in the camera's frame, less what was observed, and its Jacobian: the
+/// Rust's `pixel_projection`. Refuses: row 9 where a coordinate is not finite, where the depth is
+/// not above 64ε of the largest absolute coordinate, or where an entry of the residual or of the
+/// Jacobian is not finite.
 #[tactic(auto, using(crate::proofs::Laws::let_through, crate::proofs::Laws::refused))]
 #[inline(always)]
 pub fn pixel_projection(
@@ -75,7 +82,8 @@ pub fn pixel_projection(
     }
 }
 
-/// The same with the verdict as a flag: a loop takes it by value, where a `Result` is copied.
+/// The same with the verdict as a flag in place of row 9: a loop takes it by value, where a
+/// `Result` is copied.
 #[tactic(auto, using(crate::proofs::Laws::projectable_is))]
 #[inline(always)]
 pub fn tested_projection(

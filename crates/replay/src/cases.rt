@@ -1,34 +1,34 @@
-//! A line of stored answers: its reader, and whether an answer is the stored one.
+//! A line of stored outcomes: its reader, and whether an outcome is the stored one.
 
-use crate::files::{Answered, Lengths};
+use crate::files::{Lengths, Outcome};
 use crate::memory::Inputs;
 use crate::values;
 
-/// A line: the inputs' patterns, ` = `, and the answer.
+/// A line: the patterns of the inputs, ` = `, and the outcome that the original gave.
 #[derive(Clone, Copy)]
 pub struct Case<'a> {
     inputs: &'a str,
-    answer: Answer<'a>,
+    stored: Stored<'a>,
 }
 
-/// The patterns of what a call gave, or its one number as an exact value, or its refusal by the
-/// numbers that stand in the line.
+// What the original gave: the patterns of its numbers and then its counts, or its one number as an
+// exact value, or a refusal
 #[derive(Clone, Copy)]
-enum Answer<'a> {
+enum Stored<'a> {
     Patterns(&'a str),
     Value(f64),
     Refused { row: u8, view: u8, index: u32 },
 }
 
 impl<'a> Case<'a> {
-    /// None of a line out of form.
+    /// The case of a line; none of a line out of form.
     pub fn read(line: &'a str) -> Option<Self> {
-        let (inputs, answer) = line.split_once(" = ")?;
-        let answer = Answer::read(answer)?;
-        Some(Self { inputs, answer })
+        let (inputs, stored) = line.split_once(" = ")?;
+        let stored = Stored::read(stored)?;
+        Some(Self { inputs, stored })
     }
 
-    /// The inputs; none where there are more or fewer.
+    /// The inputs, `count` patterns; none where there are more or fewer.
     pub fn inputs(&self, count: usize) -> Option<Inputs> {
         let mut given = self.inputs.split(' ');
         let mut words = [0; 108];
@@ -37,40 +37,41 @@ impl<'a> Case<'a> {
         }
         match given.next() {
             Some(_) => None,
-            None => Some(Inputs::of(words)),
+            None => Some(Inputs::from_words(words)),
         }
     }
 
+    /// Whether the original refused the call.
     pub fn is_refused(&self) -> bool {
-        matches!(self.answer, Answer::Refused { .. })
+        matches!(self.stored, Stored::Refused { .. })
     }
 
-    /// Whether the stored answer is this one. Beside a refusal the lent memory has to be what it
+    /// Whether the stored outcome is this one. Beside a refusal the lent memory has to be what it
     /// was.
-    pub fn agrees(&self, answered: &Answered, lengths: Lengths) -> bool {
-        let code = answered.code;
-        match self.answer {
-            Answer::Patterns(words) => code == 0 && holds(words, answered, lengths),
-            Answer::Value(x) => code == 0 && values::are_same(x, answered.after.numbers[0]),
-            Answer::Refused { row, view, index } => {
+    pub fn agrees(&self, outcome: &Outcome, lengths: Lengths) -> bool {
+        let code = outcome.code;
+        match self.stored {
+            Stored::Patterns(words) => code == 0 && has_patterns(outcome, words, lengths),
+            Stored::Value(x) => code == 0 && values::are_same(x, outcome.after.numbers[0]),
+            Stored::Refused { row, view, index } => {
                 let stored = u64::from(row) + 256 * u64::from(view) + 65536 * u64::from(index);
-                code == stored && answered.after.is_same(&answered.before)
+                code == stored && outcome.after.is_same(&outcome.before)
             }
         }
     }
 }
 
-impl<'a> Answer<'a> {
+impl<'a> Stored<'a> {
     fn read(text: &'a str) -> Option<Self> {
         if let Some(value) = text.strip_prefix("value ") {
-            return Some(Answer::Value(values::read(value)?));
+            return Some(Stored::Value(values::read(value)?));
         }
         let Some(refusal) = text.strip_prefix("refused ") else {
-            return Some(Answer::Patterns(text));
+            return Some(Stored::Patterns(text));
         };
         let (row, place) = refusal.split_once(' ')?;
         let (view, index) = place.split_once(' ')?;
-        Some(Answer::Refused {
+        Some(Stored::Refused {
             row: row.parse().ok()?,
             view: view.parse().ok()?,
             index: index.parse().ok()?,
@@ -78,15 +79,15 @@ impl<'a> Answer<'a> {
     }
 }
 
-// Whether the words are just the patterns of the numbers and then the counts that the call gave
-fn holds(words: &str, answered: &Answered, lengths: Lengths) -> bool {
+// Whether the call gave just these patterns, of its numbers and then of its counts
+fn has_patterns(outcome: &Outcome, words: &str, lengths: Lengths) -> bool {
     let mut words = words.split(' ');
-    for x in answered.after.numbers.iter().take(lengths.numbers) {
+    for x in outcome.after.numbers.iter().take(lengths.numbers) {
         if next_pattern(words.next()) != Some(numerics::to_bits(*x)) {
             return false;
         }
     }
-    for count in answered.after.counts.iter().take(lengths.counts) {
+    for count in outcome.after.counts.iter().take(lengths.counts) {
         if next_pattern(words.next()) != Some(u64::from(*count)) {
             return false;
         }
@@ -94,6 +95,7 @@ fn holds(words: &str, answered: &Answered, lengths: Lengths) -> bool {
     words.next().is_none()
 }
 
+// None at the end of the words too
 fn next_pattern(word: Option<&str>) -> Option<u64> {
     pattern(word?)
 }

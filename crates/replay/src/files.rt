@@ -1,4 +1,4 @@
-//! The files of stored answers, and what is written of each.
+//! The files of stored outcomes, and what is printed of each.
 
 use crate::cases::Case;
 use crate::matrices::Matrix;
@@ -11,8 +11,8 @@ use program_io::stored_file;
 use std::io;
 use std::rt::Files;
 
-/// A file has at most 300,000 bytes.
-pub const ROOM: usize = 300_001;
+/// The length of the buffer: one byte more than a file has at most.
+pub const BUFFER: usize = 300_001;
 
 /// A call that is replayed.
 #[derive(Clone, Copy)]
@@ -24,7 +24,8 @@ pub enum Call {
     Step(Step),
 }
 
-/// How many words a call's lines have before the answer, and how many numbers and counts it gives.
+/// How many words the lines of a call have before the outcome, and how many numbers and counts the
+/// call gives.
 #[derive(Clone, Copy)]
 pub struct Lengths {
     pub inputs: usize,
@@ -32,32 +33,32 @@ pub struct Lengths {
     pub counts: usize,
 }
 
-/// What a call answered, and its lent memory before and after.
+/// What a call gave: its code, and its lent memory before and after.
 #[derive(Clone, Copy)]
-pub struct Answered {
+pub struct Outcome {
     pub code: u64,
     pub before: Memory,
     pub after: Memory,
 }
 
-/// Makes the call of each line of a file, NAME.txt, and prints how many lines there are, how many
-/// refusals, and how many answers are not the stored ones, of which the first three are printed.
+/// Makes the call of each line of a file, NAME.txt, and prints how many lines and refusals there
+/// are, and how many outcomes are not the stored ones. The first three of those are printed.
 pub fn replay(
     rt: &(impl Files + Print),
-    room: &mut [u8],
+    buffer: &mut [u8],
     file: &str,
     call: Call,
     lengths: Lengths,
 ) -> io::Result<()> {
     let name = file.strip_suffix(".txt").unwrap_or(file);
-    let text = text(rt, room, file)?;
+    let text = text(rt, buffer, file)?;
     let mut cases = 0u64;
     let mut refused = 0u64;
     let mut differences = 0u64;
     for line in text.lines() {
         cases = cases.saturating_add(1);
         refused = refused.saturating_add(u64::from(is_refused(line)));
-        let Err(difference) = outcome(line, call, lengths) else {
+        let Err(difference) = comparison(line, call, lengths) else {
             continue;
         };
         if differences < 3 {
@@ -69,33 +70,35 @@ pub fn replay(
     println!(rt; "{name} {cases} cases {refused} refused {differences} differences")
 }
 
-/// The text of a file.
-pub fn text<'a>(rt: &impl Files, room: &'a mut [u8], file: &str) -> io::Result<&'a str> {
-    let n = stored_file::read(rt, file, room)?;
-    match str::from_utf8(&room[..n]) {
+/// The text of a file, read into the buffer.
+pub fn text<'a>(rt: &impl Files, buffer: &'a mut [u8], file: &str) -> io::Result<&'a str> {
+    let n = stored_file::read(rt, file, buffer)?;
+    match str::from_utf8(&buffer[..n]) {
         Ok(text) => Ok(text),
         Err(_) => Err(io::ErrorKind::InvalidData.into()),
     }
 }
 
-/// How a line differs from what its call gave.
+// How a line differs from what its call gave
 #[derive(Clone, Copy)]
 enum Difference {
     OutOfForm,
-    Answer(Answered),
+    Gave(Outcome),
 }
 
-fn outcome(line: &str, call: Call, lengths: Lengths) -> Result<(), Difference> {
+// Makes the call of a line.
+fn comparison(line: &str, call: Call, lengths: Lengths) -> Result<(), Difference> {
     let case = Case::read(line).ok_or(Difference::OutOfForm)?;
     let inputs = case.inputs(lengths.inputs).ok_or(Difference::OutOfForm)?;
-    let answered = call.made(&inputs);
-    if case.agrees(&answered, lengths) {
+    let outcome = call.outcome(&inputs);
+    if case.agrees(&outcome, lengths) {
         Ok(())
     } else {
-        Err(Difference::Answer(answered))
+        Err(Difference::Gave(outcome))
     }
 }
 
+// Whether the stored outcome of a line is a refusal; not where it is out of form
 fn is_refused(line: &str) -> bool {
     match Case::read(line) {
         Some(case) => case.is_refused(),
@@ -104,9 +107,10 @@ fn is_refused(line: &str) -> bool {
 }
 
 impl Call {
-    fn made(self, inputs: &Inputs) -> Answered {
+    // Makes the call in memory of its own.
+    fn outcome(self, inputs: &Inputs) -> Outcome {
         let before = match self {
-            Call::System(call) => call.lent(inputs),
+            Call::System(call) => call.memory(inputs),
             _ => Memory::filled(),
         };
         let Memory {
@@ -121,7 +125,7 @@ impl Call {
             Call::System(call) => call.make(inputs, &mut numbers, &mut counts),
             Call::Step(call) => call.make(x, &mut numbers, &mut counts),
         };
-        Answered {
+        Outcome {
             code,
             before,
             after: Memory { numbers, counts },
@@ -133,12 +137,12 @@ impl Difference {
     fn show(&self, rt: &impl Print, lengths: Lengths) -> io::Result<()> {
         match self {
             Difference::OutOfForm => println!(rt; " is out of form"),
-            Difference::Answer(answered) => answered.show(rt, lengths),
+            Difference::Gave(outcome) => outcome.show(rt, lengths),
         }
     }
 }
 
-impl Answered {
+impl Outcome {
     // What the call gave, or beside a refusal which bits of the lent memory are not what they were
     fn show(&self, rt: &impl Print, lengths: Lengths) -> io::Result<()> {
         let code = self.code;

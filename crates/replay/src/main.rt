@@ -1,6 +1,6 @@
-//! Replays stored answers: each line of data/NAME.txt is a call of the original Rust with its
-//! answer, and the proved call has to give the same, bit for bit; then the list of each stored run
-//! record.
+//! Replays stored outcomes: each line of data/NAME.txt is a call of the original Rust with what it
+//! gave, and the proved call has to give the same, bit for bit; then the list of each stored run
+//! record. `README.md` has the form of the lines.
 #![tactic(auto)]
 
 mod cases;
@@ -17,11 +17,11 @@ mod values;
 use std::io;
 
 fn main(rt: HostRuntime) -> io::Result<()> {
-    let mut room = [0; files::ROOM];
-    numbers::replay(&rt, &mut room)?;
-    matrices::replay(&rt, &mut room)?;
-    points::replay(&rt, &mut room)?;
-    systems::replay(&rt, &mut room)?;
-    steps::replay(&rt, &mut room)?;
-    records::replay(&rt, &mut room)
+    let mut buffer = [0; files::BUFFER];
+    numbers::replay(&rt, &mut buffer)?;
+    matrices::replay(&rt, &mut buffer)?;
+    points::replay(&rt, &mut buffer)?;
+    systems::replay(&rt, &mut buffer)?;
+    steps::replay(&rt, &mut buffer)?;
+    records::replay(&rt, &mut buffer)
 }

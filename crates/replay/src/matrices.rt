@@ -6,6 +6,7 @@ use c_calls::matrix_calls;
 use std::io;
 use std::rt::Files;
 
+/// A call on matrices.
 #[derive(Clone, Copy)]
 pub enum Matrix {
     DampingDiagonal,
@@ -19,7 +20,8 @@ pub enum Matrix {
     Spoiled,
 }
 
-pub fn replay(rt: &(impl Files + Print), room: &mut [u8]) -> io::Result<()> {
+/// Replays the files of the calls on matrices.
+pub fn replay(rt: &(impl Files + Print), buffer: &mut [u8]) -> io::Result<()> {
     let calls = [
         ("damping_diagonal.txt", Matrix::DampingDiagonal, 9, 3),
         ("damped_matrix.txt", Matrix::DampedMatrix, 10, 9),
@@ -47,12 +49,13 @@ pub fn replay(rt: &(impl Files + Print), room: &mut [u8]) -> io::Result<()> {
             numbers,
             counts: 0,
         };
-        files::replay(rt, room, file, Call::Matrix(call), lengths)?;
+        files::replay(rt, buffer, file, Call::Matrix(call), lengths)?;
     }
     Ok(())
 }
 
 impl Matrix {
+    /// Makes the call, and returns its code.
     pub fn make(self, inputs: &Inputs, out: &mut [f64; 59], counts: &mut [u16; 3]) -> u64 {
         let x = &inputs.numbers;
         match self {

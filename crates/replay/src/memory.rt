@@ -7,7 +7,7 @@ pub struct Inputs {
     pub numbers: [f64; 108],
 }
 
-/// The memory that a call is lent, as much of it as the call asks for.
+/// The memory that a call is lent; it uses as much of the front as it needs.
 #[derive(Clone, Copy)]
 pub struct Memory {
     pub numbers: [f64; 59],
@@ -15,8 +15,8 @@ pub struct Memory {
 }
 
 impl Inputs {
-    /// The numbers of these words.
-    pub fn of(words: [u64; 108]) -> Self {
+    /// The words, with the number of each.
+    pub fn from_words(words: [u64; 108]) -> Self {
         let mut numbers = [0.0; 108];
         for (x, word) in numbers.iter_mut().zip(&words) {
             *x = numerics::from_bits(*word);
@@ -45,7 +45,7 @@ impl Inputs {
 }
 
 impl Memory {
-    /// Each place holds another value, and none a NaN.
+    /// Memory in which each place holds another value, and none a NaN.
     pub fn filled() -> Self {
         let mut pattern = 0xA5A5_A5A5_A5A5_A5A5u64;
         let mut numbers = [0.0; 59];

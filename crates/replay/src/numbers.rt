@@ -5,6 +5,7 @@ use numerics::extrema;
 use std::io;
 use std::rt::Files;
 
+/// A function on single numbers.
 #[derive(Clone, Copy)]
 pub enum Number {
     Sqrt,
@@ -17,7 +18,8 @@ pub enum Number {
     FromBits,
 }
 
-pub fn replay(rt: &(impl Files + Print), room: &mut [u8]) -> io::Result<()> {
+/// Replays the files of the functions on single numbers.
+pub fn replay(rt: &(impl Files + Print), buffer: &mut [u8]) -> io::Result<()> {
     let calls = [
         ("sqrt.txt", Number::Sqrt, 1),
         ("abs.txt", Number::Abs, 1),
@@ -35,13 +37,13 @@ pub fn replay(rt: &(impl Files + Print), room: &mut [u8]) -> io::Result<()> {
             numbers: 1,
             counts: 0,
         };
-        files::replay(rt, room, file, Call::Number(call), lengths)?;
+        files::replay(rt, buffer, file, Call::Number(call), lengths)?;
     }
     Ok(())
 }
 
 impl Number {
-    /// Answers 0, as none of these refuses.
+    /// Calls the function, and returns 0, as none refuses.
     pub fn make(self, x: &[f64; 108], out: &mut [f64; 59]) -> u64 {
         out[0] = match self {
             Number::Sqrt => root::sqrt(x[0]),
@@ -50,7 +52,7 @@ impl Number {
             Number::IsFinite => numerics::from_bits(u64::from(numerics::is_finite(x[0]))),
             Number::Max => extrema::max(x[0], x[1]),
             Number::Min => extrema::min(x[0], x[1]),
-            // The comparison reads every answer by `to_bits`.
+            // The comparison reads every number by `to_bits`.
             Number::ToBits => x[0],
             // The line's reader made the number by `from_bits`.
             Number::FromBits => x[0],

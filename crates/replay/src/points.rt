@@ -5,6 +5,7 @@ use c_calls::block_calls;
 use std::io;
 use std::rt::Files;
 
+/// A call on a point.
 #[derive(Clone, Copy)]
 pub enum Point {
     Projection,
@@ -12,7 +13,8 @@ pub enum Point {
     Step,
 }
 
-pub fn replay(rt: &(impl Files + Print), room: &mut [u8]) -> io::Result<()> {
+/// Replays the files of the calls on a point.
+pub fn replay(rt: &(impl Files + Print), buffer: &mut [u8]) -> io::Result<()> {
     let calls = [
         ("pixel_projection.txt", Point::Projection, 10, 8),
         ("linearize_point.txt", Point::Linearization, 37, 59),
@@ -24,12 +26,13 @@ pub fn replay(rt: &(impl Files + Print), room: &mut [u8]) -> io::Result<()> {
             numbers,
             counts: 0,
         };
-        files::replay(rt, room, file, Call::Point(call), lengths)?;
+        files::replay(rt, buffer, file, Call::Point(call), lengths)?;
     }
     Ok(())
 }
 
 impl Point {
+    /// Makes the call, and returns its code.
     pub fn make(self, x: &[f64; 108], out: &mut [f64; 59]) -> u64 {
         match self {
             Point::Projection => {

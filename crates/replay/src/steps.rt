@@ -5,19 +5,21 @@ use c_calls::step_calls;
 use std::io;
 use std::rt::Files;
 
+/// The whole step, or the limit.
 #[derive(Clone, Copy)]
 pub enum Step {
     Whole,
     Limit,
 }
 
-pub fn replay(rt: &(impl Files + Print), room: &mut [u8]) -> io::Result<()> {
+/// Replays the files of the step and of the limit.
+pub fn replay(rt: &(impl Files + Print), buffer: &mut [u8]) -> io::Result<()> {
     let whole = Lengths {
         inputs: 70,
         numbers: 27,
         counts: 1,
     };
-    files::replay(rt, room, "step.txt", Call::Step(Step::Whole), whole)?;
+    files::replay(rt, buffer, "step.txt", Call::Step(Step::Whole), whole)?;
     let limit = Lengths {
         inputs: 5,
         numbers: 5,
@@ -25,7 +27,7 @@ pub fn replay(rt: &(impl Files + Print), room: &mut [u8]) -> io::Result<()> {
     };
     files::replay(
         rt,
-        room,
+        buffer,
         "limit_pose_step.txt",
         Call::Step(Step::Limit),
         limit,
@@ -33,6 +35,7 @@ pub fn replay(rt: &(impl Files + Print), room: &mut [u8]) -> io::Result<()> {
 }
 
 impl Step {
+    /// Makes the call, and returns its code.
     pub fn make(self, x: &[f64; 108], out: &mut [f64; 59], counts: &mut [u16; 3]) -> u64 {
         match self {
             Step::Whole => whole(x, out, counts),
@@ -41,8 +44,9 @@ impl Step {
     }
 }
 
+// The steps of the points, then the twelve numbers
 fn whole(x: &[f64; 108], out: &mut [f64; 59], counts: &mut [u16; 3]) -> u64 {
-    let (room, values) = out.split_at_mut(15);
+    let (point_steps, values) = out.split_at_mut(15);
     step_calls::step(
         &x[..15],
         &x[15..25],
@@ -50,7 +54,7 @@ fn whole(x: &[f64; 108], out: &mut [f64; 59], counts: &mut [u16; 3]) -> u64 {
         &x[35..40],
         &x[40..69],
         x[69],
-        room,
+        point_steps,
         &mut values[..12],
         &mut counts[..1],
     )

@@ -1,4 +1,4 @@
-//! The calls on a system, which has 45 numbers and three counts.
+//! The calls on a system. It has 45 numbers and three counts.
 
 use crate::files::{self, Call, Lengths};
 use crate::memory::{self, Inputs, Memory};
@@ -6,6 +6,7 @@ use c_calls::system_calls;
 use std::io;
 use std::rt::Files;
 
+/// A call on a system.
 #[derive(Clone, Copy)]
 pub enum System {
     New,
@@ -18,7 +19,8 @@ pub enum System {
     Spoiled,
 }
 
-pub fn replay(rt: &(impl Files + Print), room: &mut [u8]) -> io::Result<()> {
+/// Replays the files of the calls on a system.
+pub fn replay(rt: &(impl Files + Print), buffer: &mut [u8]) -> io::Result<()> {
     let calls = [
         ("system_new.txt", System::New, 48, 45, 3),
         ("system_add.txt", System::Add, 108, 45, 3),
@@ -52,20 +54,21 @@ pub fn replay(rt: &(impl Files + Print), room: &mut [u8]) -> io::Result<()> {
             numbers,
             counts,
         };
-        files::replay(rt, room, file, Call::System(call), lengths)?;
+        files::replay(rt, buffer, file, Call::System(call), lengths)?;
     }
     Ok(())
 }
 
 impl System {
-    /// The memory that the call is lent: a system that it changes in place, or room for its answer.
-    pub fn lent(self, inputs: &Inputs) -> Memory {
+    /// The memory that the call is lent: with the system that it changes in place, or filled.
+    pub fn memory(self, inputs: &Inputs) -> Memory {
         match self {
             System::New | System::Add | System::FinishDamping | System::Spoiled => inputs.system(),
             _ => Memory::filled(),
         }
     }
 
+    /// Makes the call, and returns its code.
     pub fn make(self, inputs: &Inputs, out: &mut [f64; 59], counts: &mut [u16; 3]) -> u64 {
         let x = &inputs.numbers;
         let given = inputs.counts();

@@ -18,6 +18,7 @@ pub fn are_same(x: f64, y: f64) -> bool {
     (x.is_nan() && y.is_nan()) || (x == y && 1.0 / x == 1.0 / y)
 }
 
+// The value of a text without its sign
 fn magnitude(text: &str) -> Option<f64> {
     if text == "inf" {
         return Some(f64::INFINITY);
@@ -28,11 +29,11 @@ fn magnitude(text: &str) -> Option<f64> {
     if digits >= 0x20_0000_0000_0000 {
         return None;
     }
-    Some(scaled(digits as f64, power))
+    Some(times_power_of_two(digits as f64, power))
 }
 
 // The product with a power of two, which is exact where it is a number of the format
-fn scaled(x: f64, power: i32) -> f64 {
+fn times_power_of_two(x: f64, power: i32) -> f64 {
     let factor = if power < 0 { 0.5 } else { 2.0 };
     let mut product = x;
     for _ in 0..power.unsigned_abs() {

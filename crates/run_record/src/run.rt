@@ -82,7 +82,7 @@ impl Run {
 
     /// The run as a problem of the optimizer, lent.
     pub fn problem<'a>(&'a self) -> Problem<'a>
-        ensures { Problems.of result ≡ self.now }
+        ensures { result ≡ self.now }
     {
         let n = self.count;
         Problem {

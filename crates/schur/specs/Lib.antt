@@ -1,4 +1,4 @@
--- The reduced system, `add` and the point step: schur.rs.
+-- The reduced system, `add` and the point step of schur.rs.
 pub mod PoseModel
 pub mod PoseDamping
 pub mod GradientNorm

@@ -1,8 +1,8 @@
 // SPDX-FileCopyrightText: 2026 Pierre Moulon and OpenMVG Rust contributors
 // SPDX-License-Identifier: MIT OR Apache-2.0
 
-// What a block makes of the equations of the pose, once its point is eliminated: `add` of
-// kernel/two_view/schur.rs.
+//! What a block makes of the equations of the pose once its point is eliminated: the Schur
+//! complement of `add` in kernel/two_view/schur.rs.
 
 mod block_elimination;
 
@@ -14,9 +14,8 @@ use linearization::LocalLinearization;
 use point_block::PointBlockFactor;
 use std::array;
 
-// The Hessian of the pose, with the block's less what the point takes up of it: the cross Hessian
-// times the inverse times the cross Hessian's transpose. A row at a time: by `array::from_fn` over
-// 25 entries a call is left, and the matrices go through memory.
+// S += H_pp − H_px H_xx⁻¹ H_pxᵀ. A row at a time: by `array::from_fn` over 25 entries a call is
+// left, and the matrices go through memory.
 #[tactic(auto, using(numerics::proofs::Fill::array_none, numerics::proofs::Fill::row_of_five))]
 #[inline(always)]
 pub(crate) fn reduced_hessian(
@@ -46,6 +45,7 @@ pub(crate) fn reduced_hessian(
     out
 }
 
+// g += g_p − H_px H_xx⁻¹ g_x
 #[tactic(auto, unfolding(crate::specs::SchurComplement::reduced_gradient))]
 #[inline(always)]
 pub(crate) fn reduced_gradient(
@@ -61,6 +61,7 @@ pub(crate) fn reduced_gradient(
     array::from_fn(|i| g[i] + (p[i] - dot3(cross_row(c, i), x)))
 }
 
+// What the points gain by themselves: ½ g_xᵀ H_xx⁻¹ g_x more
 #[tactic(auto, unfolding(crate::specs::SchurComplement::point_reduction))]
 #[inline(always)]
 pub(crate) fn point_reduction(
@@ -74,6 +75,7 @@ pub(crate) fn point_reduction(
     reduction + 0.5 * dot3(gradient, inverse_gradient(factor, local))
 }
 
+// H_xx⁻¹ g_x
 #[tactic(auto, unfolding(crate::specs::SchurComplement::inverse_gradient))]
 #[inline(always)]
 fn inverse_gradient(factor: PointBlockFactor, local: LocalLinearization) -> [f64; 3]
@@ -83,7 +85,7 @@ fn inverse_gradient(factor: PointBlockFactor, local: LocalLinearization) -> [f64
     factor.solve(gradient)
 }
 
-// Row i of five rows of three
+// Row i of the cross Hessian, five rows of three
 #[tactic(auto, unfolding(crate::specs::SchurComplement::cross_row))]
 #[inline(always)]
 fn cross_row(cross: [f64; 15], i: usize) -> [f64; 3]
@@ -93,7 +95,7 @@ fn cross_row(cross: [f64; 15], i: usize) -> [f64; 3]
     array::from_fn(|j| cross[3 * i + j])
 }
 
-// Not `vectors::dot`, which begins at −0
+// xᵀy; not `vectors::dot`, which begins at −0
 #[tactic(auto, unfolding(crate::specs::SchurComplement::dot3))]
 #[inline(always)]
 fn dot3(x: [f64; 3], y: [f64; 3]) -> f64

@@ -1,8 +1,8 @@
 // SPDX-FileCopyrightText: 2026 Pierre Moulon and OpenMVG Rust contributors
 // SPDX-License-Identifier: MIT OR Apache-2.0
 
-// `scaled_gradient_inf_norm` of schur.rs: the largest entry of a gradient, each scaled by the root
-// of its curvature.
+//! The largest entry of a gradient, each scaled by the root of its curvature:
+//! `scaled_gradient_inf_norm` of kernel/two_view/schur.rs.
 
 ghost use Rattle.std.specs.Prelude.{◌≡◌, ◌<◌};
 ghost use Rattle.schur.specs.GradientNorm as GradientNorm;
@@ -11,6 +11,7 @@ ghost use Rattle.numerics.specs.Vectors.{◌!◌};
 use numerics::extrema;
 use std::array;
 
+// That of a point's gradient, by the diagonal of its Hessian
 #[tactic(auto, unfolding(crate::specs::GradientNorm::point_gradient_norm))]
 #[inline(always)]
 pub(crate) fn point_gradient_norm(gradient: [f64; 3], hessian: [f64; 9]) -> f64
@@ -19,6 +20,7 @@ pub(crate) fn point_gradient_norm(gradient: [f64; 3], hessian: [f64; 9]) -> f64
     norm(gradient, [hessian[0], hessian[4], hessian[8]])
 }
 
+// The largest scaled entry of N, by a gradient and its curvatures
 #[inline(always)]
 pub(crate) fn norm<const N: usize>(g: [f64; N], d: [f64; N]) -> f64
     ensures { result ≡ GradientNorm.scaled_gradient_inf_norm N g.entry d.entry }
@@ -44,6 +46,7 @@ fn norm_without_scale(all_zero: bool) -> f64
     if all_zero { 0.0 } else { f64::INFINITY }
 }
 
+// |gᵢ| ÷ √max(dᵢ, floor), at a floor that is not below zero
 #[inline(always)]
 fn scaled_entry(value: f64, curvature: f64, floor: f64) -> f64
     ensures { GradientNorm.IsScaledEntry value curvature floor result }

@@ -2,7 +2,7 @@
 // SPDX-License-Identifier: MIT OR Apache-2.0
 
 //! The reduced system of the two-view problem, kernel/two_view/schur.rs: `reduced_add` takes a
-//! block in, with its point eliminated; `point_step` says how that point moves with a step of the
+//! block in, with its point eliminated; `point_step` gives how that point moves with a step of the
 //! pose.
 //!
 //! Both are inlined into the loops over points, with all that they call for each point, so that a

@@ -1,8 +1,8 @@
 // SPDX-FileCopyrightText: 2026 Pierre Moulon and OpenMVG Rust contributors
 // SPDX-License-Identifier: MIT OR Apache-2.0
 
-// How a point moves with a step of the pose: `point_step_with_damping_norm` of
-// kernel/two_view/schur.rs.
+//! How a point moves with a step of the pose: `point_step_with_damping_norm` of
+//! kernel/two_view/schur.rs.
 
 ghost use Rattle.std.specs.Prelude.{◌≡◌, ◌<◌};
 ghost use Rattle.refusal.specs.Outcome.{outcome};
@@ -16,14 +16,18 @@ use point_block::{PointBlockFactor, point_damping};
 use refusal::Refusal;
 use std::array;
 
-/// A point's step and its damping norm
+/// A point's step with a step of the pose
 #[derive(Clone, Copy)]
 pub struct PointStep {
+    /// In units of the baseline
     pub step: [f64; 3],
+    /// The step times the damping diagonal of the undamped point Hessian times the step
     pub damping_norm: f64,
 }
 
-/// How a point moves with a step of the pose, by its block. Tests row 3, then row 10.
+/// How the point of a block moves with a step of the pose, at a damping:
+/// −H_xx⁻¹ (g_x + H_pxᵀ s) with its damping norm, H_xx damped. Refuses: row 3, then row 10.
+/// docs/SPECIFICATION.md, "Point step".
 #[tactic(auto, unfolding(crate::specs::PointStep::point_step))]
 pub fn point_step_with_damping_norm(
     local: LocalLinearization,
@@ -38,7 +42,7 @@ pub fn point_step_with_damping_norm(
     damped_step(PointTerms::from(local), damping, pose_step)
 }
 
-/// The same at a valid damping, from what a step needs of the block. Tests row 10.
+/// The same at a valid damping, from what a step needs of the block. Refuses: row 10.
 #[tactic(auto, unfolding(crate::specs::PointStep::damped_step))]
 #[inline(always)]
 pub fn damped_step(
@@ -54,6 +58,7 @@ pub fn damped_step(
     Ok(step_by_inverse(factor, terms, pose_step))
 }
 
+// The step by the block's factor, with its damping norm
 #[tactic(auto, unfolding(crate::specs::PointStep::step_by_inverse))]
 #[inline(always)]
 fn step_by_inverse(factor: PointBlockFactor, terms: PointTerms, pose_step: [f64; 5]) -> PointStep
@@ -67,6 +72,7 @@ fn step_by_inverse(factor: PointBlockFactor, terms: PointTerms, pose_step: [f64;
     }
 }
 
+// −H_xx⁻¹ (g_x + H_pxᵀ s)
 #[tactic(auto, unfolding(crate::specs::PointStep::step_of))]
 fn step_of(factor: PointBlockFactor, terms: PointTerms, pose_step: [f64; 5]) -> [f64; 3]
     ensures { result ≡ Steps.step_of factor.inverse terms pose_step }
@@ -75,7 +81,7 @@ fn step_of(factor: PointBlockFactor, terms: PointTerms, pose_step: [f64; 5]) -> 
     x.map(|v| -v)
 }
 
-// The point's gradient with what the pose's step adds to it
+// g_x + H_pxᵀ s
 #[tactic(auto, unfolding(crate::specs::PointStep::right_hand_side))]
 fn right_hand_side(terms: PointTerms, pose_step: [f64; 5]) -> [f64; 3]
     ensures { result ≡ Steps.right_hand_side terms pose_step }
@@ -85,7 +91,7 @@ fn right_hand_side(terms: PointTerms, pose_step: [f64; 5]) -> [f64; 3]
     array::from_fn(|i| g[i] + pose_model::dot5(cross_column(c, i), pose_step))
 }
 
-// Column i of five rows of three
+// Column i of the cross Hessian, five rows of three
 #[tactic(auto, unfolding(crate::specs::PointStep::cross_column))]
 fn cross_column(cross: [f64; 15], i: usize) -> [f64; 5]
     requires { i < 3 }
@@ -94,6 +100,7 @@ fn cross_column(cross: [f64; 15], i: usize) -> [f64; 5]
     array::from_fn(|j| cross[3 * j + i])
 }
 
+// xᵀ diag(d) x
 #[tactic(auto, unfolding(crate::specs::PointStep::damping_norm))]
 fn damping_norm(diagonal: [f64; 3], step: [f64; 3]) -> f64
     ensures { result ≡ Steps.damping_norm diagonal step }

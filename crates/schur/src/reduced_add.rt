@@ -1,8 +1,8 @@
 // SPDX-FileCopyrightText: 2026 Pierre Moulon and OpenMVG Rust contributors
 // SPDX-License-Identifier: MIT OR Apache-2.0
 
-// A block taken into the reduced system, with its point eliminated: `add` of
-// kernel/two_view/schur.rs.
+//! A block taken into the reduced system, with its point eliminated: `add` of
+//! kernel/two_view/schur.rs.
 
 ghost use Rattle.std.specs.Prelude.{◌≡◌, ◌<◌};
 ghost use Rattle.std.specs.Result.{result_err};
@@ -19,7 +19,8 @@ use refusal::Refusal;
 // The most blocks that a system takes in
 const MAX_BLOCKS: u16 = 65535;
 
-/// The system with a block taken in, by value. Tests rows 3, 12, 13.
+/// The system with a block taken in at a damping, by value. Refuses: row 3, then row 12, then
+/// row 13. docs/SPECIFICATION.md, "Reduced system".
 #[tactic(auto, unfolding(crate::specs::ReducedAdd::add))]
 pub fn add(
     mut system: ReducedSystem,
@@ -34,23 +35,24 @@ pub fn add(
     Ok(system)
 }
 
-/// The same on a system that its owner lends, as the Rust's `add(&mut self)` does; refused, it
-/// leaves the system unchanged.
+/// The same on a lent system, as the Rust's `add(&mut self)`. Refuses: row 3, then row 12, then
+/// row 13; it then leaves the system as it was.
 pub fn add_to(
     system: &mut ReducedSystem,
     local: LocalLinearization,
     damping: f64,
 ) -> Result<(), Refusal>
     ensures refusal { result_err result ≡ result_err (ReducedAdd.add system.old local damping) }
-    ensures system { system.new ≡ ReducedAdd.system_after system.old (ReducedAdd.add system.old local damping) }
+    ensures system { system.new
+        ≡ ReducedAdd.system_after system.old (ReducedAdd.add system.old local damping) }
 {
     *system = add(*system, local, damping)?;
     Ok(())
 }
 
-/// The same in place, at a damping that row 3 lets through. Tests rows 12, 13; refused, it leaves
-/// the system unchanged. Inlined into the loop that makes the blocks, with all that it calls, so
-/// that neither block nor system is copied.
+/// The same on a lent system at a valid damping. Refuses: row 12, then row 13; it then leaves the
+/// system as it was. Inlined into the loop that makes the blocks, with all that it calls, so that
+/// neither block nor system is copied.
 #[inline(always)]
 pub fn take_in(
     system: &mut ReducedSystem,
@@ -66,7 +68,7 @@ pub fn take_in(
     Ok(())
 }
 
-// Rows 12 and 13
+// Refuses: row 12, then row 13.
 #[inline(always)]
 fn check_room(system: &ReducedSystem) -> Result<(), Refusal>
     ensures { result ≡ ReducedAdd.check_room system.now }
@@ -80,9 +82,8 @@ fn check_room(system: &ReducedSystem) -> Result<(), Refusal>
     Ok(())
 }
 
-// The equations change once the block's point is eliminated, and the sums take in what every block
-// brings.
-#[tactic(auto, unfolding(crate::specs::ReducedAdd::with_block, crate::specs::ReducedAdd::taken_with))]
+// Eliminates the block's point from the equations, and adds what every block brings to the sums.
+#[tactic(auto, unfolding(crate::specs::ReducedAdd::with_block))]
 #[inline(always)]
 fn add_block(system: &mut ReducedSystem, local: LocalLinearization, damping: ValidDamping)
     requires { ReducedAdd.HasRoom system.old }

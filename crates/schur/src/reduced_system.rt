@@ -1,9 +1,9 @@
 // SPDX-FileCopyrightText: 2026 Pierre Moulon and OpenMVG Rust contributors
 // SPDX-License-Identifier: MIT OR Apache-2.0
 
-// The reduced system: the 5 by 5 equations of the pose once each point is eliminated,
-// `ReducedSystem` of kernel/two_view/schur.rs. Here is what is asked of it; `reduced_add` takes
-// blocks in.
+//! The reduced system: the five equations of the pose once each point is eliminated,
+//! `ReducedSystem` of kernel/two_view/schur.rs. Here is what is asked of it; `reduced_add` takes
+//! blocks in.
 
 ghost use Rattle.std.specs.Prelude.{◌≡◌};
 ghost use Rattle.numerics.specs.Binary64.{zero};
@@ -15,27 +15,40 @@ use numerics::{extrema, vectors};
 use point_block::point_damping::ValidDamping;
 use refusal::Refusal;
 
-/// The equations of the pose, with the sums and the counts of the blocks taken in
+/// The equations of the pose, with the sums and the counts over the blocks taken in. The pose has
+/// five parameters, three of rotation and two along the translation basis.
+/// docs/SPECIFICATION.md, "Reduced system".
 #[derive(Clone, Copy)]
 pub struct ReducedSystem {
+    /// 5 by 5, row by row: the Schur complement of the points
     pub hessian: [f64; 25],
+    /// The gradient with the points eliminated
     pub gradient: [f64; 5],
     // here, as it begins at 1: a longer run of zeros would be set by a call of the C library
+    /// The smallest rcond of a block at damping zero, and 1 where there is none
     pub minimum_point_rcond: f64,
+    /// Half the sum of the weighted squared residuals
     pub cost: f64,
+    /// The sum of the squared residuals, unweighted
     pub squared_residual: f64,
+    /// The gradient of the pose before any elimination
     pub full_pose_gradient: [f64; 5],
+    /// The diagonal of the pose's Hessian before any elimination
     pub pose_diagonal: [f64; 5],
+    /// What the points gain by themselves, with the pose held
     pub point_model_reduction: f64,
+    /// The largest scaled gradient entry of a point
     pub scaled_point_gradient_inf_norm: f64,
+    /// How many blocks were weak, at damping zero
     pub weak_point_count: u16,
-    // the Rust's own flag: the sums are there whether it is set or not
+    /// Whether every block factored; the sums are there either way
     pub valid: bool,
+    /// How many blocks were taken in
     pub block_count: u16,
 }
 
 impl ReducedSystem {
-    /// A system with no block
+    /// A system with no block: +0 everywhere, but 1 as the smallest rcond; valid
     #[tactic(auto, unfolding(crate::specs::Reduced::new_system))]
     pub fn new() -> Self
         ensures { result ≡ Reduced.new_system }
@@ -56,7 +69,7 @@ impl ReducedSystem {
         }
     }
 
-    /// Adds the damping to the pose's diagonal. Tests row 3.
+    /// The system with the damping added to the diagonal of its Hessian. Refuses: row 3.
     #[tactic(auto, unfolding(crate::specs::Reduced::finish_damping))]
     pub fn finish_damping(mut self, damping: f64) -> Result<Self, Refusal>
         ensures result { result ≡ Reduced.finish_damping self damping }
@@ -67,15 +80,14 @@ impl ReducedSystem {
         Ok(self)
     }
 
-    /// Adds the damping to the pose's diagonal, in place.
-    #[tactic(auto, unfolding(crate::specs::Reduced::with_hessian))]
+    /// The same on a lent system, at a valid damping
     pub fn damp(&mut self, damping: ValidDamping)
         ensures { self.new ≡ Reduced.with_damping self.old damping }
     {
         pose_model::damp_hessian(&mut self.hessian, self.pose_diagonal, damping.value());
     }
 
-    /// Whether every block taken in factored, and the equations are finite
+    /// Whether every block taken in factored and every entry of the equations is finite
     #[tactic(auto, unfolding(crate::specs::Reduced::is_valid))]
     pub fn is_valid(&self) -> bool
         ensures { result ≡ Reduced.is_valid self.now }
@@ -92,7 +104,9 @@ impl ReducedSystem {
         extrema::max(self.scaled_point_gradient_inf_norm, pose)
     }
 
-    /// What a step of the pose is predicted to gain. Tests row 3.
+    /// What a step of the pose is predicted to gain, with the damping norm of the points' steps:
+    /// reduction of the points − gᵀs − ½ sᵀSs + ½ damping (pose damping norm + point damping norm).
+    /// Refuses: row 3.
     #[tactic(auto, unfolding(crate::specs::Reduced::predicted_reduction))]
     pub fn predicted_reduction(
         &self,
@@ -109,7 +123,7 @@ impl ReducedSystem {
         Ok(self.reduction_of(step, damping, point_damping_norm))
     }
 
-    /// What a step of the pose is predicted to gain at a valid damping
+    /// The same at a valid damping
     #[tactic(auto, unfolding(crate::specs::Reduced::reduction_of))]
     pub fn reduction_of(
         &self,

@@ -1,91 +1,74 @@
--- `solve_positive_definite` of solver.rs at 5, row by row in the Rust's order. The products of an
--- entry are summed from −0, an empty sum too: a − (−0) turns −0 into +0.
-use Rattle.std.specs.Prelude.{ℕ, ◌+◌, ◌*◌, fold, Bool, not, ◌&&◌, if◌then◌else◌, List, [], ◌∷◌, Float, Result, Ok, Err}
+-- Five equations A x = b by Cholesky's method, A = L Lᵀ: `solve_positive_definite` of solver.rs, at
+-- 5 unknowns (docs/SPECIFICATION.md, "Solve"). A matrix is 25 numbers, row by row: the entry of
+-- row i and column j stands at 5 i + j, and that on the diagonal at 6 i.
+use Rattle.std.specs.Prelude.{ℕ, ◌+◌, ◌-◌, ◌*◌, ◌==◌, fold, set, Bool, not, ◌&&◌, if◌then◌else◌}
+use Rattle.std.specs.Prelude.{List, Float, Result, Ok, Err}
 use Rattle.std.specs.List.{range_with_len}
 use Rattle.std.specs.Float.Ieee.{le}
 use Rattle.numerics.specs.Binary64.{◌⊕◌, ◌⊖◌, ◌⊗◌, ◌⊘◌, zero, neg_zero}
 use Rattle.root.specs.Root.{sqrt}
-use Rattle.numerics.specs.Vectors.{◌!◌, sum, zeros, all_finite}
+use Rattle.numerics.specs.Vectors.{◌!◌, zeros, all_finite}
 use Rattle.refusal.specs.declared.Refusal.{Refusal}
 use Rattle.refusal.specs.declared.Refusal.TheVariants.{NotSolved}
 use Rattle.solver.specs.declared.Lower.{Lower}
 
--- the products of the first j entries of the rows i and j, summed from −0
+-- Σ lᵢₖ lⱼₖ over k < j, summed from −0, an empty sum too: a − (−0) turns −0 into +0
 unfoldable pub products : List Float → ℕ → ℕ → Float
 products l i j = fold (λ s k. s ⊕ l ! (5 * i + k) ⊗ l ! (5 * j + k)) neg_zero (range_with_len 0 j)
 
--- The lower triangle, row by row: an entry left of the diagonal is its sum divided by the diagonal
--- entry above, and the diagonal entry is the root of its sum, the pivot.
-unfoldable pub lower_of : List Float → Lower
-lower_of a =
-    let s₀₀ = a ! 0 ⊖ sum [] in
-    let l₀₀ = sqrt s₀₀ in
-    let s₁₀ = a ! 5 ⊖ sum [] in
-    let l₁₀ = s₁₀ ⊘ l₀₀ in
-    let s₁₁ = a ! 6 ⊖ sum (l₁₀ ⊗ l₁₀ ∷ []) in
-    let l₁₁ = sqrt s₁₁ in
-    let s₂₀ = a ! 10 ⊖ sum [] in
-    let l₂₀ = s₂₀ ⊘ l₀₀ in
-    let s₂₁ = a ! 11 ⊖ sum (l₂₀ ⊗ l₁₀ ∷ []) in
-    let l₂₁ = s₂₁ ⊘ l₁₁ in
-    let s₂₂ = a ! 12 ⊖ sum (l₂₀ ⊗ l₂₀ ∷ l₂₁ ⊗ l₂₁ ∷ []) in
-    let l₂₂ = sqrt s₂₂ in
-    let s₃₀ = a ! 15 ⊖ sum [] in
-    let l₃₀ = s₃₀ ⊘ l₀₀ in
-    let s₃₁ = a ! 16 ⊖ sum (l₃₀ ⊗ l₁₀ ∷ []) in
-    let l₃₁ = s₃₁ ⊘ l₁₁ in
-    let s₃₂ = a ! 17 ⊖ sum (l₃₀ ⊗ l₂₀ ∷ l₃₁ ⊗ l₂₁ ∷ []) in
-    let l₃₂ = s₃₂ ⊘ l₂₂ in
-    let s₃₃ = a ! 18 ⊖ sum (l₃₀ ⊗ l₃₀ ∷ l₃₁ ⊗ l₃₁ ∷ l₃₂ ⊗ l₃₂ ∷ []) in
-    let l₃₃ = sqrt s₃₃ in
-    let s₄₀ = a ! 20 ⊖ sum [] in
-    let l₄₀ = s₄₀ ⊘ l₀₀ in
-    let s₄₁ = a ! 21 ⊖ sum (l₄₀ ⊗ l₁₀ ∷ []) in
-    let l₄₁ = s₄₁ ⊘ l₁₁ in
-    let s₄₂ = a ! 22 ⊖ sum (l₄₀ ⊗ l₂₀ ∷ l₄₁ ⊗ l₂₁ ∷ []) in
-    let l₄₂ = s₄₂ ⊘ l₂₂ in
-    let s₄₃ = a ! 23 ⊖ sum (l₄₀ ⊗ l₃₀ ∷ l₄₁ ⊗ l₃₁ ∷ l₄₂ ⊗ l₃₂ ∷ []) in
-    let l₄₃ = s₄₃ ⊘ l₃₃ in
-    let s₄₄ = a ! 24 ⊖ sum (l₄₀ ⊗ l₄₀ ∷ l₄₁ ⊗ l₄₁ ∷ l₄₂ ⊗ l₄₂ ∷ l₄₃ ⊗ l₄₃ ∷ []) in
-    let l₄₄ = sqrt s₄₄ in
+-- sᵢⱼ = aᵢⱼ − Σ lᵢₖ lⱼₖ over k < j,  lᵢⱼ = sᵢⱼ ÷ lⱼⱼ left of the diagonal,  lᵢᵢ = √sᵢᵢ
+unfoldable pub with_entry : List Float → ℕ → Lower → ℕ → Lower
+with_entry a i l j =
+    let s = a ! (5 * i + j) ⊖ products l.entries i j in
     record {
-      sums = s₀₀ ∷ zero ∷ zero ∷ zero ∷ zero
-          ∷ s₁₀ ∷ s₁₁ ∷ zero ∷ zero ∷ zero
-          ∷ s₂₀ ∷ s₂₁ ∷ s₂₂ ∷ zero ∷ zero
-          ∷ s₃₀ ∷ s₃₁ ∷ s₃₂ ∷ s₃₃ ∷ zero
-          ∷ s₄₀ ∷ s₄₁ ∷ s₄₂ ∷ s₄₃ ∷ s₄₄ ∷ [];
-      entries = l₀₀ ∷ zero ∷ zero ∷ zero ∷ zero
-          ∷ l₁₀ ∷ l₁₁ ∷ zero ∷ zero ∷ zero
-          ∷ l₂₀ ∷ l₂₁ ∷ l₂₂ ∷ zero ∷ zero
-          ∷ l₃₀ ∷ l₃₁ ∷ l₃₂ ∷ l₃₃ ∷ zero
-          ∷ l₄₀ ∷ l₄₁ ∷ l₄₂ ∷ l₄₃ ∷ l₄₄ ∷ [];
+      sums = set l.sums (5 * i + j) s;
+      entries = set l.entries (5 * i + j) (if i == j then sqrt s else s ⊘ l.entries ! (6 * j));
     }
 
--- every sum is finite, and no pivot is at or below 0
+-- row i, its entries 0 to i one after the other
+unfoldable pub with_row : List Float → Lower → ℕ → Lower
+with_row a l i = fold (with_entry a i) l (range_with_len 0 (i + 1))
+
+-- the lower triangle row by row; what lies right of the diagonal is +0
+unfoldable pub lower_of : List Float → Lower
+lower_of a = fold (with_row a) (record { sums = zeros 25; entries = zeros 25 }) (range_with_len 0 5)
+
+-- every sum is finite, and no pivot sᵢᵢ is at or below 0
 unfoldable pub has_valid_sums : List Float → Bool
 has_valid_sums s =
-    all_finite s && not (le (s ! 0) zero) && not (le (s ! 6) zero) && not (le (s ! 12) zero) && not (le (s ! 18) zero) && not (le (s ! 24) zero)
+    all_finite s
+    && not (le (s ! 0) zero)
+    && not (le (s ! 6) zero)
+    && not (le (s ! 12) zero)
+    && not (le (s ! 18) zero)
+    && not (le (s ! 24) zero)
 
--- L y = b
+-- bᵢ − lᵢ₀ y₀ − .. − lᵢ,ᵢ₋₁ yᵢ₋₁
+unfoldable pub forward_sum : List Float → List Float → List Float → ℕ → Float
+forward_sum l b y i = fold (λ s j. s ⊖ l ! (5 * i + j) ⊗ y ! j) (b ! i) (range_with_len 0 i)
+
+-- y with yᵢ = (bᵢ − lᵢ₀ y₀ − .. − lᵢ,ᵢ₋₁ yᵢ₋₁) ÷ lᵢᵢ
+unfoldable pub with_forward_entry : List Float → List Float → List Float → ℕ → List Float
+with_forward_entry l b y i = set y i (forward_sum l b y i ⊘ l ! (6 * i))
+
+-- the solution y of L y = b, from y₀ on
 unfoldable pub forward : List Float → List Float → List Float
-forward l b =
-    let y₀ = b ! 0 ⊘ l ! 0 in
-    let y₁ = (b ! 1 ⊖ l ! 5 ⊗ y₀) ⊘ l ! 6 in
-    let y₂ = (b ! 2 ⊖ l ! 10 ⊗ y₀ ⊖ l ! 11 ⊗ y₁) ⊘ l ! 12 in
-    let y₃ = (b ! 3 ⊖ l ! 15 ⊗ y₀ ⊖ l ! 16 ⊗ y₁ ⊖ l ! 17 ⊗ y₂) ⊘ l ! 18 in
-    let y₄ = (b ! 4 ⊖ l ! 20 ⊗ y₀ ⊖ l ! 21 ⊗ y₁ ⊖ l ! 22 ⊗ y₂ ⊖ l ! 23 ⊗ y₃) ⊘ l ! 24 in
-    y₀ ∷ y₁ ∷ y₂ ∷ y₃ ∷ y₄ ∷ []
+forward l b = fold (with_forward_entry l b) (zeros 5) (range_with_len 0 5)
 
--- Lᵀ x = y
+-- yᵢ − lᵢ₊₁,ᵢ xᵢ₊₁ − .. − l₄ᵢ x₄
+unfoldable pub backward_sum : List Float → List Float → List Float → ℕ → Float
+backward_sum l y x i =
+    fold (λ s j. s ⊖ l ! (5 * j + i) ⊗ x ! j) (y ! i) (range_with_len (i + 1) (4 - i))
+
+-- x with xᵢ = (yᵢ − lᵢ₊₁,ᵢ xᵢ₊₁ − .. − l₄ᵢ x₄) ÷ lᵢᵢ
+unfoldable pub with_backward_entry : List Float → List Float → List Float → ℕ → List Float
+with_backward_entry l y x i = set x i (backward_sum l y x i ⊘ l ! (6 * i))
+
+-- the solution x of Lᵀ x = y, from x₄ down
 unfoldable pub backward : List Float → List Float → List Float
-backward l y =
-    let x₄ = y ! 4 ⊘ l ! 24 in
-    let x₃ = (y ! 3 ⊖ l ! 23 ⊗ x₄) ⊘ l ! 18 in
-    let x₂ = (y ! 2 ⊖ l ! 17 ⊗ x₃ ⊖ l ! 22 ⊗ x₄) ⊘ l ! 12 in
-    let x₁ = (y ! 1 ⊖ l ! 11 ⊗ x₂ ⊖ l ! 16 ⊗ x₃ ⊖ l ! 21 ⊗ x₄) ⊘ l ! 6 in
-    let x₀ = (y ! 0 ⊖ l ! 5 ⊗ x₁ ⊖ l ! 10 ⊗ x₂ ⊖ l ! 15 ⊗ x₃ ⊖ l ! 20 ⊗ x₄) ⊘ l ! 0 in
-    x₀ ∷ x₁ ∷ x₂ ∷ x₃ ∷ x₄ ∷ []
+backward l y = fold (λ x k. with_backward_entry l y x (4 - k)) (zeros 5) (range_with_len 0 5)
 
+-- L y = b, then Lᵀ x = y
 unfoldable pub solution : List Float → List Float → List Float
 solution l b = backward l (forward l b)
 
@@ -93,10 +76,12 @@ solution l b = backward l (forward l b)
 abbrev pub zero_solution : List Float
 zero_solution = zeros 5
 
--- Row 11 where any input, any sum or any result is not finite or a pivot ≤ 0. The Rust leaves at
--- the first of these; what it would have worked out afterwards decides nothing.
+-- Row 11 where an entry of a, of b or of x or a sum is not finite, or a pivot is at or below 0. The
+-- Rust leaves at the first of these; what it would work out afterwards decides nothing.
 unfoldable pub solve_positive_definite : List Float → List Float → Result (List Float) Refusal
 solve_positive_definite a b =
     let l = lower_of a in
     let x = solution l.entries b in
-    if all_finite a && all_finite b && has_valid_sums l.sums && all_finite x then Ok x else Err NotSolved
+    if all_finite a && all_finite b && has_valid_sums l.sums && all_finite x
+    then Ok x
+    else Err NotSolved

@@ -1,11 +1,11 @@
 // SPDX-FileCopyrightText: 2026 Pierre Moulon and OpenMVG Rust contributors
 // SPDX-License-Identifier: MIT OR Apache-2.0
 
-//! The solution of a positive definite system of 5 unknowns by Cholesky's method:
-//! `solve_positive_definite` of numerics/refine/solver.rs. The matrix is 25 numbers, row by row.
+//! The solution of five equations by Cholesky's method: `solve_positive_definite` of
+//! numerics/refine/solver.rs, at 5 unknowns. The matrix is 25 numbers, row by row.
 #![tactic(auto)]
 
-ghost use Rattle.std.specs.Prelude.{◌≡◌, ◌<◌, ◌≤◌};
+ghost use Rattle.std.specs.Prelude.{◌≡◌, ◌<◌, ◌≤◌, ◌-◌};
 ghost use Rattle.refusal.specs.Outcome.{outcome};
 ghost use Rattle.solver.specs.Solver as Solver;
 ghost use Rattle.solver.specs.Solver.{zero_solution};
@@ -13,51 +13,70 @@ ghost use Rattle.solver.specs.Solver.{zero_solution};
 use numerics::vectors;
 use refusal::Refusal;
 
-// The lower triangle, row by row, and the sums that its entries were made from. What lies right of
-// the diagonal is +0.
+// The lower triangle L, row by row, and beside each entry the sum that it was made from. What lies
+// right of the diagonal is +0.
 #[derive(Clone, Copy)]
 struct Lower {
     sums: [f64; 25],
     entries: [f64; 25],
 }
 
-/// The solution of `a x = b`. Refused with row 11 where an entry of `a` or `b`, a sum or a result
-/// is not finite, or a pivot is not above 0.
+/// The solution x of `a x = b`. Refuses: row 11 where an entry of `a`, of `b` or of x or a sum of
+/// the factorization is not finite, or a pivot is not above 0.
 #[tactic(auto, unfolding(crate::specs::Solver::solve_positive_definite))]
 pub fn solve_positive_definite(a: [f64; 25], b: [f64; 5]) -> Result<[f64; 5], Refusal>
     ensures result { result ≡ Solver.solve_positive_definite a b }
-    ensures outcome { outcome zero_solution result ≡ outcome zero_solution (Solver.solve_positive_definite a b) }
+    ensures outcome { outcome zero_solution result
+        ≡ outcome zero_solution (Solver.solve_positive_definite a b) }
 {
     let lower = lower_of(a);
-    let x = solution(lower.entries, b);
-    let good = vectors::all_finite(&a)
+    let x = solution(&lower.entries, b);
+    let solved = vectors::all_finite(&a)
         & vectors::all_finite(&b)
         & has_valid_sums(lower.sums)
         & vectors::all_finite(&x);
-    if good { Ok(x) } else { Err(Refusal::NotSolved) }
+    if solved {
+        Ok(x)
+    } else {
+        Err(Refusal::NotSolved)
+    }
 }
 
-// An entry left of the diagonal is its sum divided by the diagonal entry above, and the diagonal
-// entry is the root of its sum, the pivot. Each needs the entries before it, which `from_fn` does
-// not hand on.
+// Row by row: each entry needs those before it.
+#[tactic(auto, unfolding(crate::specs::Solver::lower_of))]
 fn lower_of(a: [f64; 25]) -> Lower
     ensures { result ≡ Solver.lower_of a }
 {
-    let mut sums = [0.0; 25];
-    let mut entries = [0.0; 25];
-    for i in 0..5 {
-        for j in 0..i + 1 {
-            let k = 5 * i + j;
-            let sum = a[k] - products(&entries, i, j);
-            sums[k] = sum;
-            entries[k] = if i == j {
-                root::sqrt(sum)
-            } else {
-                sum / entries[6 * j]
-            };
-        }
-    }
-    Lower { sums, entries }
+    let zero = Lower {
+        sums: [0.0; 25],
+        entries: [0.0; 25],
+    };
+    (0..5).fold(zero, |l, i| with_row(&a, l, i))
+}
+
+#[tactic(auto, unfolding(crate::specs::Solver::with_row))]
+fn with_row(a: &[f64; 25], l: Lower, i: usize) -> Lower
+    requires { i < 5 }
+    ensures { result ≡ Solver.with_row a.now l i }
+{
+    (0..i + 1).fold(l, |l, j| with_entry(a, i, l, j))
+}
+
+#[tactic(auto, unfolding(crate::specs::Solver::with_entry))]
+fn with_entry(a: &[f64; 25], i: usize, mut l: Lower, j: usize) -> Lower
+    requires row { i < 5 }
+    requires entry { j ≤ i }
+    ensures { result ≡ Solver.with_entry a.now i l j }
+{
+    let k = 5 * i + j;
+    let sum = a[k] - products(&l.entries, i, j);
+    l.sums[k] = sum;
+    l.entries[k] = if i == j {
+        root::sqrt(sum)
+    } else {
+        sum / l.entries[6 * j]
+    };
+    l
 }
 
 // The products of the first j entries of the rows i and j, summed from −0
@@ -84,34 +103,72 @@ fn has_valid_sums(sums: [f64; 25]) -> bool
 }
 
 #[tactic(auto, unfolding(crate::specs::Solver::solution))]
-fn solution(l: [f64; 25], b: [f64; 5]) -> [f64; 5]
-    ensures { result ≡ Solver.solution l b }
+fn solution(l: &[f64; 25], b: [f64; 5]) -> [f64; 5]
+    ensures { result ≡ Solver.solution l.now b }
 {
     backward(l, forward(l, b))
 }
 
-// L y = b
+// y of L y = b, from its first entry on
 #[tactic(auto, unfolding(crate::specs::Solver::forward))]
-fn forward(l: [f64; 25], b: [f64; 5]) -> [f64; 5]
-    ensures { result ≡ Solver.forward l b }
+fn forward(l: &[f64; 25], b: [f64; 5]) -> [f64; 5]
+    ensures { result ≡ Solver.forward l.now b }
 {
-    let y0 = b[0] / l[0];
-    let y1 = (b[1] - l[5] * y0) / l[6];
-    let y2 = (b[2] - l[10] * y0 - l[11] * y1) / l[12];
-    let y3 = (b[3] - l[15] * y0 - l[16] * y1 - l[17] * y2) / l[18];
-    let y4 = (b[4] - l[20] * y0 - l[21] * y1 - l[22] * y2 - l[23] * y3) / l[24];
-    [y0, y1, y2, y3, y4]
+    (0..5).fold(
+        [0.0; 5],
+        |y, i|
+            requires { i < 5 }
+            ensures { result ≡ Solver.with_forward_entry l.entry.now b y i }
+        { with_forward_entry(l, b, y, i) },
+    )
 }
 
-// Lᵀ x = y
-#[tactic(auto, unfolding(crate::specs::Solver::backward))]
-fn backward(l: [f64; 25], y: [f64; 5]) -> [f64; 5]
-    ensures { result ≡ Solver.backward l y }
+#[tactic(auto, unfolding(crate::specs::Solver::with_forward_entry))]
+fn with_forward_entry(l: &[f64; 25], b: [f64; 5], mut y: [f64; 5], i: usize) -> [f64; 5]
+    requires { i < 5 }
+    ensures { result ≡ Solver.with_forward_entry l.now b y i }
 {
-    let x4 = y[4] / l[24];
-    let x3 = (y[3] - l[23] * x4) / l[18];
-    let x2 = (y[2] - l[17] * x3 - l[22] * x4) / l[12];
-    let x1 = (y[1] - l[11] * x2 - l[16] * x3 - l[21] * x4) / l[6];
-    let x0 = (y[0] - l[5] * x1 - l[10] * x2 - l[15] * x3 - l[20] * x4) / l[0];
-    [x0, x1, x2, x3, x4]
+    y[i] = forward_sum(l, b, y, i) / l[6 * i];
+    y
+}
+
+// Entry i of b less the products with the entries of y before it
+#[tactic(auto, unfolding(crate::specs::Solver::forward_sum))]
+fn forward_sum(l: &[f64; 25], b: [f64; 5], y: [f64; 5], i: usize) -> f64
+    requires { i < 5 }
+    ensures { result ≡ Solver.forward_sum l.now b y i }
+{
+    (0..i).fold(b[i], |sum, j| sum - l[5 * i + j] * y[j])
+}
+
+// x of Lᵀ x = y, from its last entry back
+#[tactic(auto, unfolding(crate::specs::Solver::backward))]
+fn backward(l: &[f64; 25], y: [f64; 5]) -> [f64; 5]
+    ensures { result ≡ Solver.backward l.now y }
+{
+    (0..5).fold(
+        [0.0; 5],
+        |x, k|
+            requires { k < 5 }
+            ensures { result ≡ Solver.with_backward_entry l.entry.now y x (4 - k) }
+        { with_backward_entry(l, y, x, 4 - k) },
+    )
+}
+
+#[tactic(auto, unfolding(crate::specs::Solver::with_backward_entry))]
+fn with_backward_entry(l: &[f64; 25], y: [f64; 5], mut x: [f64; 5], i: usize) -> [f64; 5]
+    requires { i < 5 }
+    ensures { result ≡ Solver.with_backward_entry l.now y x i }
+{
+    x[i] = backward_sum(l, y, x, i) / l[6 * i];
+    x
+}
+
+// Entry i of y less the products with the entries of x behind it
+#[tactic(auto, unfolding(crate::specs::Solver::backward_sum))]
+fn backward_sum(l: &[f64; 25], y: [f64; 5], x: [f64; 5], i: usize) -> f64
+    requires { i < 5 }
+    ensures { result ≡ Solver.backward_sum l.now y x i }
+{
+    (i + 1..5).fold(y[i], |sum, j| sum - l[5 * j + i] * x[j])
 }

@@ -1,4 +1,4 @@
-// The structs of the C interface as flat numbers, in the order in which `flat` reads them.
+//! The structs of the calls as flat numbers, in the order in which `layout` reads them.
 
 ghost use Rattle.std.specs.Prelude.{◌≡◌};
 ghost use Rattle.c_calls.specs.LayoutNumbers as LayoutNumbers;
@@ -7,6 +7,7 @@ use crate::slices;
 use linearization::LocalLinearization;
 use schur::reduced_system::ReducedSystem;
 
+// The 59 numbers of a block
 pub(crate) fn block_numbers(b: LocalLinearization) -> [f64; 59]
     ensures { result ≡ LayoutNumbers.block_numbers b }
 {
@@ -20,6 +21,7 @@ pub(crate) fn block_numbers(b: LocalLinearization) -> [f64; 59]
     values
 }
 
+// The 45 numbers of a system
 pub(crate) fn system_numbers(s: ReducedSystem) -> [f64; 45]
     ensures { result ≡ LayoutNumbers.system_numbers s }
 {

@@ -65,8 +65,8 @@ fn put_list(out: &mut [u8], record: &[u8]) -> usize
 
 // The list of a run: rows 3 to 9, then the lines
 fn put_listed(writer: &mut Writer, problem: &Problem)
-    ensures { let p = Problems.of problem.now in
-        Text.AppendsText (Lists.lines_or_refusal p (Checks.check_problem p)) writer.old writer.new }
+    ensures { Text.AppendsText (Lists.lines_or_refusal problem.now (Checks.check_problem problem.now))
+        writer.old writer.new }
 {
     match CheckedProblem::new(problem) {
         Ok(checked) => put_lines(writer, &checked),
@@ -81,7 +81,7 @@ fn put_lines(writer: &mut Writer, problem: &CheckedProblem)
         writer.old writer.new }
 {
     let fitting = problem.fitting();
-    lines::put_run(writer, fitting.count(), fitting.problem.damping);
+    lines::put_run(writer, fitting.count(), problem.damping().value());
     put_points(writer, problem);
     lines::put_sum(writer, assembly::reduced_system(problem));
 }
@@ -103,8 +103,8 @@ fn put_points(writer: &mut Writer, problem: &CheckedProblem)
 // How the block of a point factors at a damping
 fn letter_of(point: ProblemPoint, damping: ValidDamping) -> u8
     ensures { result ≡ Letters.letter_of
-        (Assembly.block_at (Problems.of point.entry.fitting.problem.now) point.entry.index) damping }
+        (Assembly.block_at point.entry.fitting.now point.entry.index) damping }
 {
-    let block = linearization::block_of(&point.fitting.problem.rig, point.correspondence());
+    let block = linearization::block_of(point.fitting.rig(), point.correspondence());
     letters::letter_of(block, damping)
 }

@@ -1,9 +1,11 @@
 // SPDX-FileCopyrightText: 2026 Pierre Moulon and OpenMVG Rust contributors
 // SPDX-License-Identifier: MIT OR Apache-2.0
 
-// A block that factors, and one that does not, and whether it is weak.
+//! A block that factors, and one that does not, and whether it is weak: `add` of
+//! kernel/two_view/schur.rs.
 
-ghost use Rattle.std.specs.Prelude.{◌≡◌, ◌<◌};
+ghost use Rattle.std.specs.Prelude.{◌≡◌, ◌<◌, if◌then◌else◌};
+ghost use Rattle.numerics.specs.Binary64.{zero};
 ghost use Rattle.schur.specs.BlockElimination as BlockElimination;
 ghost use Rattle.schur.specs.ReducedAdd as ReducedAdd;
 
@@ -15,7 +17,7 @@ use point_block::PointBlockFactor;
 use point_block::point_damping::ValidDamping;
 
 // Changes the equations by a block and counts it where it is weak. Gives whether it factors.
-#[tactic(auto, unfolding(crate::specs::BlockElimination::elimination_of, crate::specs::BlockElimination::after_elimination, crate::specs::BlockElimination::unfactored))]
+#[tactic(auto, unfolding(crate::specs::BlockElimination::elimination_of, crate::specs::BlockElimination::elimination_by_inverse, crate::specs::BlockElimination::elimination_without_factor))]
 #[inline(always)]
 pub(crate) fn eliminate(
     system: &mut ReducedSystem,
@@ -23,9 +25,16 @@ pub(crate) fn eliminate(
     damping: ValidDamping,
 ) -> bool
     requires { system.old.weak_point_count < ReducedAdd.max_blocks }
-    ensures factored { result ≡ (BlockElimination.elimination_of system.old local damping).factored }
-    ensures system { system.new ≡ BlockElimination.with_equations system.old
-        (BlockElimination.elimination_of system.old local damping) }
+    ensures factored { result
+        ≡ (BlockElimination.elimination_of system.old local damping).factored }
+    ensures system { let e = BlockElimination.elimination_of system.old local damping in
+        system.new ≡ record system.old {
+          hessian = e.hessian;
+          gradient = e.gradient;
+          point_model_reduction = e.point_model_reduction;
+          weak_point_count = BlockElimination.count_if e.weak system.old.weak_point_count;
+          minimum_point_rcond = e.minimum_point_rcond;
+        } }
 {
     match PointBlockFactor::new(local.point_hessian, damping) {
         Ok(factor) => {
@@ -39,8 +48,9 @@ pub(crate) fn eliminate(
     }
 }
 
-// A block that factors
-#[tactic(auto, unfolding(crate::specs::BlockElimination::after_elimination))]
+// A block that factors: the Schur complement of its point enters the equations. Its rcond is worked
+// out at damping zero only.
+#[tactic(auto, unfolding(crate::specs::BlockElimination::elimination_by_inverse))]
 #[inline(always)]
 fn take_in_factored(
     system: &mut ReducedSystem,
@@ -49,8 +59,15 @@ fn take_in_factored(
     factor: PointBlockFactor,
 )
     requires { system.old.weak_point_count < ReducedAdd.max_blocks }
-    ensures { system.new ≡ BlockElimination.with_equations system.old
-        (BlockElimination.after_elimination system.old local damping factor.inverse) }
+    ensures { let e = BlockElimination.elimination_by_inverse
+        system.old local damping factor.inverse in
+        system.new ≡ record system.old {
+          hessian = e.hessian;
+          gradient = e.gradient;
+          point_model_reduction = e.point_model_reduction;
+          weak_point_count = BlockElimination.count_if e.weak system.old.weak_point_count;
+          minimum_point_rcond = e.minimum_point_rcond;
+        } }
 {
     system.hessian = elimination::reduced_hessian(system.hessian, factor, local);
     system.gradient = elimination::reduced_gradient(system.gradient, factor, local);
@@ -66,13 +83,14 @@ fn take_in_factored(
     }
 }
 
-// A block that does not factor: at damping zero it is weak with an rcond of 0.
-#[tactic(auto, unfolding(crate::specs::BlockElimination::unfactored))]
+// A block that does not factor: at damping zero only, it is weak and the smallest rcond is 0.
 #[inline(always)]
 fn take_in_unfactored(system: &mut ReducedSystem, at_zero: bool)
     requires { system.old.weak_point_count < ReducedAdd.max_blocks }
-    ensures { system.new ≡ BlockElimination.with_equations system.old
-        (BlockElimination.unfactored system.old at_zero) }
+    ensures { system.new ≡ record system.old {
+      weak_point_count = BlockElimination.count_if at_zero system.old.weak_point_count;
+      minimum_point_rcond = if at_zero then zero else system.old.minimum_point_rcond;
+    } }
 {
     if at_zero {
         system.minimum_point_rcond = 0.0;

@@ -1,4 +1,3 @@
--- `views::weigh` meets its contract. Assumes nothing.
 use Rattle.std.proofs.Common.{rules}
 use Rattle.numerics.specs.Binary64.{◌⊗◌}
 use Rattle.numerics.specs.Vectors.{◌!◌}

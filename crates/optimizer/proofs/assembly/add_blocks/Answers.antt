@@ -4,12 +4,12 @@ use Rattle.optimizer.proofs.assembly.add_blocks.Goals as goal
 
 pub unreachable-requires : goal.unreachable-requires
 unreachable-requires c =
-    let few = c.fitting-fitting.result.fits.3 in
+    let few = c.count-index-end.ensures.fits.most in
     c.in_default.not-Ok _ (room_left c.args.problem.now c.loop-index.index (omega arith) _ c.loop-index.invariant.system _ c.take_in.ensures.refusal)
 
 pub loop-index-preserved : goal.loop-index-preserved
 loop-index-preserved c =
-    let few = c.fitting-fitting.result.fits.3 in
+    let few = c.count-index-end.ensures.fits.most in
     let p = c.args.problem.now in
     record {
       within = c.loop-index.invariant.within;

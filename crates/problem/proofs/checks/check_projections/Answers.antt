@@ -1,16 +1,15 @@
 use mathlib.Core.Path.{refl, sym}
 use native.Mathlib.Omega.{arith}
 use Rattle.refusal.proofs.Scans.{ends, goes_on, leaves}
-use Rattle.problem.specs.Problem.{of}
 use Rattle.problem.proofs.Parts.{views_begin, seen_check}
 use Rattle.problem.proofs.checks.check_projections.Goals as goal
 
 pub views-init : goal.views-init
-views-init c = (c.points.invariant.0, views_begin (of c.args.fitting.problem.now) c.points.index)
+views-init c = (c.points.invariant.0, views_begin c.args.fitting.now c.points.index)
 
 pub views-preserved : goal.views-preserved
 views-preserved c =
-    let e = seen_check (of c.args.fitting.problem.now) c.points.index c.views.view-index _ _ _ _ _ refl c.seen.ensures c.coordinates.ensures c.project-projected.ensures c.if-is_err.ensures.negation in
+    let e = seen_check c.args.fitting.now c.points.index c.views.view-index _ _ _ _ _ _ refl c.seen.ensures c.coordinates.ensures c.rig.ensures c.project-projected.ensures c.if-is_err.ensures.negation in
     (c.views.invariant.0, goes_on _ _ _ _ c.views.invariant.1 (omega arith) e)
 
 pub points-preserved : goal.points-preserved
@@ -19,5 +18,5 @@ points-preserved c =
 
 pub returns-then-is_err : goal.returns-then-is_err
 returns-then-is_err c =
-    let e = seen_check (of c.args.fitting.problem.now) c.points.index c.views.view-index _ _ _ _ _ refl c.seen.ensures c.coordinates.ensures c.project-projected.ensures c.if-is_err.ensures.negation in
+    let e = seen_check c.args.fitting.now c.points.index c.views.view-index _ _ _ _ _ _ refl c.seen.ensures c.coordinates.ensures c.rig.ensures c.project-projected.ensures c.if-is_err.ensures.negation in
     sym (leaves _ _ _ _ c.points.invariant.2 _ (omega arith) (leaves _ _ _ _ c.views.invariant.1 _ (omega arith) e))

@@ -1,2 +1,0 @@
--- The rows that the loops of `lower_of` write.
-mod Rows
