@@ -14,6 +14,7 @@ use Rattle.std.specs.Float.{float_with_sign}
 use Rattle.numerics.specs.Classify.{abs}
 use Rattle.numerics.proofs.Values.{zero_is, round_value}
 
+-- above 0 a value is its absolute value
 pub abs_above : (f : Format) (x : Float) → lt (of_bits f 0) x ≡ true → x ≡ abs x
 unfolding lt float_with_sign
 abs_above f x h = let k = rw (zero_is f) at h in search rules
@@ -28,6 +29,7 @@ no_more u d h =
     let z : u ≡ 0 = omega (arith, zero-mul d) in
     simp (z, zero-mul, zero-sub)
 
+-- elsewhere the absolute value is the difference from 0
 from_zero : (f : Format) (x : Float) → T (fits f x) → lt (fin false 0 (pos 0)) x ≡ false → sub f (fin false 0 (pos 0)) x ≡ abs x
 unfolding lt sub neg float_with_sign
 from_zero f (fin true m e) p h =

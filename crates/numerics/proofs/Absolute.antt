@@ -11,10 +11,12 @@ use Rattle.std.proofs.lemmas.Bool.Decides.{nat_tests}
 use Rattle.std.specs.Float.{float_is_finite, is_sign_negative, float_with_sign}
 use Rattle.numerics.specs.Classify.{is_nonnegative, abs}
 
+-- a number's absolute value is clear of the sign
 pub nonneg_abs : (x : Float) → T (not (is_nan x)) → T (is_nonnegative (abs x))
 unfolding is_nonnegative float_with_sign is_nan
 nonneg_abs x p = search rules
 
+-- the format that holds a value holds its absolute value
 pub fits_abs : (f : Format) (x : Float) → T (fits f x) → T (fits f (abs x))
 unfolding fits float_with_sign
 fits_abs f x p = search rules
@@ -26,6 +28,7 @@ abs_clear x h = search rules
 
 -- ---- of a product it is the product of the absolute values
 
+-- the absolute value of a rounded fraction is the fraction without its sign, rounded
 abs_round : (f : Format) (s : Bool) (a c : ℕ) → abs (round f s a c) ≡ round f false a c
 unfolding units odd float_with_sign
 abs_round f s a c = rw (round_is f s a c, round_is f false a c) (search rules)

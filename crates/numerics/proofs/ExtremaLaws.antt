@@ -31,6 +31,7 @@ eq_alike f x y p q a h = grind arith
 level_zero : (s t : Bool) (a b : ℕ) → s ≡ not t → T (level s a t b) → a ≡ 0
 level_zero s t a b u h = search (rules, eqb→eq, and_r)
 
+-- so the first of two such values is a zero with its own sign
 eq_unlike : (f : Format) (x y : Float) → T (fits f x) → is_sign_negative x ≡ not (is_sign_negative y) → T (eq x y) → x ≡ fin (is_sign_negative x) 0 (pos 0)
 unfolding eq is_sign_negative
 eq_unlike f (fin s m e) (fin t n d) p a h =
@@ -41,6 +42,7 @@ eq_unlike f x y p a h = grind arith
 flip : (s t : Bool) → s ≡ not t → t ≡ not s
 flip s t u = search rules
 
+-- each case of the standard, by cases of the two values
 is_maximum : (x y : Float) → T (fits binary64 x) → T (fits binary64 y) → IsMaximum x y (max x y)
 unfolding max is_nan lt eq is_sign_negative of_bits
 is_maximum x y p q = record {

@@ -22,6 +22,7 @@ from_index a (suc n) f = rw (add-zero a, ← from_index (a + 1) n f) (simp (add-
 pub tabulate_maps : (n : ℕ) (f : ℕ → Float) → tabulate n f ≡ map f (range_with_len 0 n)
 tabulate_maps n f = rw (← from_index 0 n f) (simp zero-add)
 
+-- `tabulate n` has n entries
 pub length_tabulate : (n : ℕ) (f : ℕ → Float) → length (tabulate n f) ≡ n
 length_tabulate n f = rw tabulate_maps (length-map-range_with_len f 0 n)
 
@@ -29,6 +30,7 @@ length_tabulate n f = rw tabulate_maps (length-map-range_with_len f 0 n)
 abbrev pub filled : List Float → (ℕ → Float) → ℕ → List Float
 filled l f k = tabulate k f ++ drop k l
 
+-- one entry more is filled
 pub fill_next : (l h : List Float) (f : ℕ → Float) (k : ℕ) (v : Float) → h ≡ filled l f k → v ≡ f k → k < length l → set h k v ≡ filled l f (k + 1)
 fill_next l h f k v e g i =
     rw (e, g, drop-cons l k nan i)
@@ -39,6 +41,7 @@ fill_next l h f k v e g i =
 pub fill_read : (l h : List Float) (f : ℕ → Float) (k : ℕ) → h ≡ filled l f k → k < length l → h ! k ≡ l ! k
 fill_read l h f k e i = rw (e, drop-cons l k nan i) (get_or_at (tabulate k f) (l ! k) (drop (suc k) l) nan k (length_tabulate k f))
 
+-- the whole list is filled
 pub fill_all : (l h : List Float) (f : ℕ → Float) (k n : ℕ) → h ≡ filled l f k → k ≡ n → length l ≡ n → h ≡ tabulate n f
 fill_all l h f k n e g i = let d : drop n l ≡ [] = rw i at (drop-length l) in rw (e, g, d, append-nil) refl
 

@@ -32,20 +32,24 @@ pub max_select : (least x : Float) → T (is_nonnegative least) → max least x 
 unfolding max lt eq is_nan is_nonnegative is_sign_negative
 max_select least x h = grind (arith, nat_tests)
 
+-- the larger of a value clear of the sign and any other is clear of it
 pub nonneg_max : (x y : Float) → T (is_nonnegative x) → T (is_nonnegative (max x y))
 unfolding max lt eq is_nan is_nonnegative is_sign_negative
 nonneg_max x y h = search rules
 
+-- the smaller of two values clear of the sign is clear of it
 pub nonneg_min : (x y : Float) → T (is_nonnegative x) → T (is_nonnegative y) → T (is_nonnegative (min x y))
 unfolding min
 nonneg_min x y h k = search rules
 
 -- ---- `max_nonnegative` in the place of `max`
 
+-- with the other value first, by one comparison too
 low_second : (low x : Float) → T (fits binary64 low) → T (fits binary64 x) → T (is_nonnegative low) → max_nonnegative low x ≡ max x low
 unfolding max lt eq is_nan is_nonnegative is_sign_negative
 low_second low x p q k = grind (arith, nat_tests, eq_alike binary64 x low q p)
 
+-- what the contract of `max_nonnegative` says of a result
 pub max_nonnegative_is : (low x r : Float) → fits binary64 low ≡ true → fits binary64 x ≡ true → r ≡ max_nonnegative low x → IsMaxNonnegative low x r
 max_nonnegative_is low x r p q e = record {
   value = e;
@@ -55,6 +59,7 @@ max_nonnegative_is low x r p q e = record {
 
 -- ---- the largest of a list
 
+-- it is clear of the sign
 pub nonneg_largest : (low : Float) (xs : List Float) → T (is_nonnegative low) → T (is_nonnegative (fold max low xs))
 nonneg_largest low [] n = n
 nonneg_largest low (x ∷ xs) n = nonneg_largest (max low x) xs (nonneg_max low x n)

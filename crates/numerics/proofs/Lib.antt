@@ -1,6 +1,5 @@
--- Laws of values, of lists of numbers and of the larger and the smaller of two values. Those in
--- `pub`
--- modules other crates cite.
+-- Laws of values, of lists of numbers and of the larger and the smaller of two values. Other crates
+-- cite those in `pub` modules.
 pub mod Values
 pub mod Specials
 mod AbsLaws

@@ -19,10 +19,12 @@ use Rattle.numerics.specs.Classify.{is_nonnegative}
 use Rattle.numerics.proofs.Values.{zero_is, round_value, round_zero}
 use Rattle.numerics.proofs.Order.{nonneg_mul_positive}
 
+-- what is finite is a number
 pub finite_not_nan : (x : Float) → T (float_is_finite x) → T (not (is_nan x))
 unfolding float_is_finite is_nan
 finite_not_nan x h = search rules
 
+-- +0 is clear of the sign
 pub nonneg_zero : (f : Format) → T (is_nonnegative (of_bits f 0))
 unfolding is_nonnegative of_bits
 nonneg_zero f = search rules
@@ -34,6 +36,7 @@ zero-le x h = grind (arith, nat_tests, zero-mul)
 
 -- ---- a sum of values clear of the sign is at least the first, an infinite sum too: the first fits, so it is its own rounding
 
+-- a / x is at most a / x + b / (x * y)
 grows : (a b x y : ℕ) → a * (x * y) ≤ (a * y + b) * x
 grows a b x y = le-trans· (le_of_eq (sym (mul_assoc a x y) ∙ mul_right_comm a x y)) (mul-le-mul_right x (le-add_right (a * y) b))
 
@@ -48,6 +51,7 @@ le_add f x y p h k = search rules
 
 -- ---- a product with a weight, which is finite and above zero
 
+-- such a product stays clear of the sign
 nonneg_mul_right : (f : Format) (x : Float) (n : ℕ) (d : ℤ) → T (is_nonnegative x) → T (is_nonnegative (mul f x (fin false (suc n) d)))
 unfolding mul is_nonnegative
 nonneg_mul_right f (fin false m e) n d h =
@@ -64,6 +68,7 @@ nonneg_mul_weight f x w h p l = weight f x w h p (rw (zero_is f) at l)
 
 -- ---- c * x * x for a c that is finite and above zero: where x is 0 so is c * x, and where x is infinite so is c * x
 
+-- a finite value times 0 is 0
 pub times_zero : (f : Format) (m : ℕ) (e d : ℤ) → mul f (fin false m e) (fin false 0 d) ≡ fin false 0 (pos 0)
 unfolding mul
 times_zero f m e d = rw (zero-mul (up d), mul-zero (m * up e)) (round_zero f false (down e * down d) (mul-pos (down_pos e) (down_pos d)))
@@ -85,6 +90,7 @@ opposite : (f : Format) (a c : ℕ) → cond (ltb 0 a) (round f false (a - 0) c)
 opposite f zero c = refl
 opposite f (suc a) c = grind (arith, nat_tests, sub-zero)
 
+-- −0 + x is x
 from_negative_zero : (f : Format) (x : Float) → T (fits f x) → add f (fin true 0 (pos 0)) x ≡ x
 unfolding add
 from_negative_zero f (fin true m e) p = simp (zero-mul, zero-add, mul-one, one-mul) (round_value f (fin true m e) true (m * up e) (down e) (down_pos e) p (refl, refl))

@@ -11,7 +11,7 @@ use lib.Ieee.Fits.{round_is}
 use Rattle.std.proofs.Common.{rules}
 pub use Rattle.std.proofs.lemmas.Float.{le_refl}
 use Rattle.std.proofs.lemmas.Float.{lt_irrefl, lt_trans}
-use Rattle.std.specs.Float.{float_is_finite, is_sign_negative}
+use Rattle.std.specs.Float.{float_is_finite}
 use Rattle.numerics.specs.Binary64.{◌⊗◌, relative_tolerance, recip}
 use Rattle.numerics.specs.Classify.{is_nonnegative}
 
@@ -28,17 +28,10 @@ lt_one_way x y h = grind (arith, lt_irrefl x, lt_trans x y x)
 
 -- ---- values clear of the sign
 
+-- such a value is a number
 pub nonneg_not_nan : (x : Float) → T (is_nonnegative x) → T (not (is_nan x))
 unfolding is_nonnegative is_nan
 nonneg_not_nan x h = search rules
-
-pub nonneg_is : (x : Float) → T (not (is_nan x)) → is_nonnegative x ≡ not (is_sign_negative x)
-unfolding is_nonnegative is_sign_negative is_nan
-nonneg_is x p = search rules
-
-pub not_negative : (x : Float) → T (is_nonnegative x) → is_sign_negative x ≡ false
-unfolding is_nonnegative is_sign_negative
-not_negative x h = search rules
 
 -- what lies above such a value is one too
 pub nonneg_above : (x y : Float) → T (is_nonnegative x) → T (lt x y) → T (is_nonnegative y)
@@ -47,19 +40,23 @@ nonneg_above x y h k = search rules
 
 -- ---- what is rounded
 
+-- a whole number of units, rounded
 pub nonneg_units : (f : Format) (q k : ℕ) → T (is_nonnegative (units f false q k))
 unfolding units odd is_nonnegative
 nonneg_units f q k = search rules
 
+-- a fraction, rounded
 nonneg_round : (f : Format) (a c : ℕ) → T (is_nonnegative (round f false a c))
 nonneg_round f a c = rw (round_is f false a c) (nonneg_units f _ _)
 
 -- ---- sums and products
 
+-- the sum of two such values
 pub nonneg_add : (f : Format) (x y : Float) → T (is_nonnegative x) → T (is_nonnegative y) → T (is_nonnegative (add f x y))
 unfolding add is_nonnegative
 nonneg_add f x y h k = search (rules, nonneg_round)
 
+-- the square of a number
 pub nonneg_square : (f : Format) (x : Float) → T (not (is_nan x)) → T (is_nonnegative (mul f x x))
 unfolding mul is_nonnegative is_nan
 nonneg_square f x p = search (rules, nonneg_round)
@@ -74,6 +71,7 @@ pub nonneg_floor : (y : Float) → T (is_nonnegative y) → T (is_nonnegative (r
 unfolding of_bits
 nonneg_floor y h = nonneg_mul_positive binary64 0 (negsuc 45) y h
 
+-- the reciprocal of such a finite value, +∞ for +0
 pub nonneg_recip : (x : Float) → T (float_is_finite x) → T (is_nonnegative x) → T (is_nonnegative (recip x))
 unfolding float_is_finite is_nonnegative div of_bits
 nonneg_recip x p h = search (rules, nonneg_round)

@@ -31,6 +31,7 @@ use Rattle.numerics.proofs.Laws.{max_select, nonneg_max}
 keeps : (c a b u v w : ℕ) → a * v ≤ b * u → c * a * (w * v) ≤ c * b * (w * u)
 keeps c a b u v w h = rw (mul-mul-mul_comm c a w v, mul-mul-mul_comm c b w u) (mul-le-mul_left (c * w) h)
 
+-- every number is at most +∞
 le_top : (x : Float) → T (not (is_nan x)) → T (le x (inf false))
 unfolding le lt is_nan
 le_top x p = search rules

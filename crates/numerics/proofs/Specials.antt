@@ -16,6 +16,7 @@ pub nan_pattern : to_bits binary64 nan ≡ 0x7ff8_0000_0000_0000
 unfolding to_bits
 nan_pattern = refl
 
+-- one NaN there is
 pub nan_of_is_nan : (x : Float) → is_nan x ≡ true → x ≡ nan
 unfolding is_nan
 nan_of_is_nan x h = search rules

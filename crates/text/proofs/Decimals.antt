@@ -1,6 +1,6 @@
 -- The ten digits of a number, without the zeros before it, are std's `decimal`. Assumes nothing.
 use mathlib.Core.Path.{◌≡◌, refl, sym, ap, ◌∙◌}
-use mathlib.Core.Bool.{Bool, true, false, cond}
+use mathlib.Core.Bool.{Bool, true, false}
 use mathlib.Core.List.{List, [], ◌∷◌, ◌++◌}
 use Prim.Native.Nat.{ℕ, zero, suc, ◌+◌, ◌/◌, ◌%◌, ◌^◌, ◌≤◌, ◌<◌}
 use native.Mathlib.Nat.{div-eq_of_lt, div-div-eq-div-mul, div-lt_iff_lt-mul, le-div_iff_mul-le, one-le-pow, pow-suc, pow-succ'}
@@ -27,8 +27,9 @@ but_one : (k n : ℕ) → last_digits (suc k) n ≡ last_digits k (n / 10) ++ di
 but_one zero n = refl
 but_one (suc k) n = rw (but_one k n, div-div-eq-div-mul n 10 (10 ^ suc k), ← (pow-succ' 10 (suc k))) refl
 
+-- a number of one digit
 one_digit : (n : ℕ) → n < 10 → digit n ∷ [] ≡ decimal n
-one_digit n h = let e : n % 10 ≡ n = omega arith in ap (λ (d : ℕ). (48 + d) ∷ []) e ∙ sym (decimal_digit n h)
+one_digit n h = grind (arith, decimal_digit n h)
 
 -- where the first of them is no zero
 all_digits : (k n : ℕ) → 10 ^ k ≤ n → n < 10 ^ suc k → n < 2 ^ 64 → last_digits k n ≡ decimal n
@@ -59,12 +60,7 @@ behind_zeros_of_ten n h = behind_zeros 9 n (omega arith) (omega arith)
 -- no decimal is longer than 64 digits, whatever the number
 onto_length : (k n : ℕ) (acc : List ℕ) → length (digits_onto k 10 false n acc) ≤ k + length acc
 onto_length zero n acc = omega arith
-onto_length (suc k) n acc = by (eqb (n / 10) 0) (onto_length k (n / 10) (digit_glyph false (n % 10) ∷ acc))
-  where
-    by : (t : Bool) → length (digits_onto k 10 false (n / 10) (digit_glyph false (n % 10) ∷ acc)) ≤ k + suc (length acc)
-        → length (cond t (digit_glyph false (n % 10) ∷ acc) (digits_onto k 10 false (n / 10) (digit_glyph false (n % 10) ∷ acc))) ≤ suc k + length acc
-    by true h = omega arith
-    by false h = omega arith
+onto_length (suc k) n acc = grind (arith, onto_length k (n / 10) (digit_glyph false (n % 10) ∷ acc))
 
 pub decimal_length : (n : ℕ) → length (decimal n) ≤ 64
 unfolding digits

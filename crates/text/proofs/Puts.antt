@@ -3,7 +3,7 @@ use mathlib.Core.Path.{◌≡◌, refl, sym, ap, ◌∙◌, subst}
 use mathlib.Core.Bool.{Bool, true, false}
 use mathlib.Core.List.{List, [], ◌∷◌, ◌++◌, append_assoc}
 use Prim.Native.Nat.{ℕ, zero, suc, ◌+◌, ◌-◌, ◌≤◌, ◌<◌, min}
-use native.Mathlib.Nat.{add_assoc, add-zero}
+use native.Mathlib.Nat.{add_assoc, add-zero, zero-sub, sub-zero}
 use native.Mathlib.Omega.{arith}
 use borrow.Author.Tests.{leb-true, leb-false}
 use borrow.Rule.Slice.PartMut.{put_mid}
@@ -29,14 +29,7 @@ put_of t at out n k r e g h =
     subst (Left at out (at + n) (put_mid at k out r)) f (ap (λ (j : ℕ). at + j) (sym m), p)
 
 pasted_length : (out : List ℕ) (at : ℕ) (t : List ℕ) → length (with_text out at (text_that_fits out at t)) ≡ length out
-pasted_length out at t =
-    let f = text_that_fits out at t in
-    let a = length-append (take at out ++ f) (drop (at + length f) out) in
-    let b = length-append (take at out) f in
-    let c = length-take at out in
-    let d = length-take (length out - at) t in
-    let e = length-drop (at + length f) out in
-    omega arith
+pasted_length out at t = omega (arith, length-append {A = ℕ}, length-take {A = ℕ}, length-drop {A = ℕ})
 
 pub put_length : (t : List ℕ) (at : ℕ) (out : List ℕ) (next : ℕ) (after : List ℕ) → PutsText t at out next after → length after ≡ length out
 unfolding PutsText
@@ -61,23 +54,21 @@ put_beyond t at out h =
     subst (Left at out at out) none (sym (add-zero at), paste-zero out at [])
 
 take_append : (n : ℕ) (s t : List ℕ) → take n (s ++ t) ≡ take n s ++ take (n - length s) t
-take_append zero s t = let e : 0 ≡ 0 - length s = omega arith in ap (λ (k : ℕ). take k t) e
-take_append (suc n) [] t = let e : suc n ≡ suc n - 0 = omega arith in ap (λ (k : ℕ). take k t) e
+take_append zero s t = simp zero-sub
+take_append (suc n) [] t = simp sub-zero
 take_append (suc n) (x ∷ s) t =
     let e : n - length s ≡ suc n - suc (length s) = omega arith in
-    ap (λ (l : List ℕ). x ∷ l) (take_append n s t ∙ ap (λ (k : ℕ). take n s ++ take k t) e)
+    cc (take_append n s t)
 
 both_pasted : (s t : List ℕ) (at : ℕ) (out : List ℕ) → at + length s ≤ length out → with_text (with_text out at s) (at + length s) t ≡ with_text out at (s ++ t)
 both_pasted s t at out h =
-    let n : length (take at out ++ s) ≡ at + length s = length-append (take at out) s ∙ ap (λ (k : ℕ). k + length s) (length-take-le at out (omega arith)) in
-    let l : at + length s + length t ≡ at + length (s ++ t) = add_assoc at (length s) (length t) ∙ ap (λ (k : ℕ). at + k) (sym (length-append s t)) in
-    ap (λ (x : List ℕ). x ++ t ++ drop (at + length s + length t) (with_text out at s)) (take_at (take at out ++ s) (drop (at + length s) out) (at + length s) n)
-    ∙ ap (λ (x : List ℕ). take at out ++ s ++ t ++ x)
-    (ap (λ (k : ℕ). drop (k + length t) (with_text out at s)) (sym n)
-    ∙ drop-append-add (take at out ++ s) (drop (at + length s) out) (length t)
-    ∙ drop-drop (length t) (at + length s) out
-    ∙ ap (λ (k : ℕ). drop k out) l)
-    ∙ ap (λ (x : List ℕ). x ++ drop (at + length (s ++ t)) out) (append_assoc (take at out) s t)
+    let front = take at out ++ s in
+    let rest = drop (at + length s) out in
+    let n : length front ≡ at + length s = omega (arith, length-append {A = ℕ}, length-take {A = ℕ}) in
+    let l : at + length s + length t ≡ at + length (s ++ t) = omega (arith, length-append {A = ℕ}) in
+    let behind : drop (at + length s + length t) (front ++ rest) ≡ drop (at + length (s ++ t)) out =
+    ap (λ (k : ℕ). drop (k + length t) (front ++ rest)) (sym n) ∙ drop-append-add front rest (length t) ∙ drop-drop (length t) (at + length s) out ∙ ap (λ (k : ℕ). drop k out) l in
+    rw (take_at front rest (at + length s) n, behind, append_assoc (take at out) s t) refl
 
 module _ (s t : List ℕ) (at : ℕ) (out : List ℕ) (middle : ℕ) (between : List ℕ) (next : ℕ) (after : List ℕ) (p : PutsText s at out middle between) (q : PutsText t middle between next after) where
   from : (x : List ℕ) → text_that_fits out at s ≡ x → PutsText t (at + length x) (with_text out at x) next after
