@@ -86,7 +86,7 @@ enum Difference {
     Gave(Outcome),
 }
 
-// Makes the call of a line.
+// Makes the call of a line, and compares what it gives with the stored outcome.
 fn comparison(line: &str, call: Call, lengths: Lengths) -> Result<(), Difference> {
     let case = Case::read(line).ok_or(Difference::OutOfForm)?;
     let inputs = case.inputs(lengths.inputs).ok_or(Difference::OutOfForm)?;

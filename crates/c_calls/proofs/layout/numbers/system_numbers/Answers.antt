@@ -1,4 +1,4 @@
-use Rattle.std.proofs.Common.{◌≡◌, refl, rules, length}
+use Rattle.std.proofs.Common.{refl, rules}
 use Rattle.c_calls.specs.LayoutNumbers.{system_numbers}
 use Rattle.c_calls.proofs.Writing.{nothing_written, next_written, all_written}
 use Rattle.c_calls.proofs.layout.numbers.system_numbers.Goals as goal
