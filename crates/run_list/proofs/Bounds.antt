@@ -1,16 +1,16 @@
 -- The longest list: 4,057 bytes. Assumes nothing.
 use mathlib.Core.Path.{◌≡◌, refl, ap, ◌∙◌}
-use mathlib.Core.Bool.{Bool, true, false}
+use mathlib.Core.Bool.{true, false}
 use mathlib.Core.List.{List, [], ◌∷◌, ◌++◌}
-use Prim.Native.Nat.{ℕ, zero, suc, ◌+◌, ◌*◌, ◌-◌, ◌/◌, ◌≤◌, ◌<◌}
+use Prim.Native.Nat.{ℕ, zero, suc, ◌+◌, ◌*◌, ◌-◌, ◌≤◌, ◌<◌}
 use native.Mathlib.Omega.{arith}
 use native.Mathlib.Nat.{zero-add}
 use borrow.Author.Tests.{lt-leb, le-leb}
 use mathlib.Core.Logic.{◌⊎◌, inl, inr}
 use Rattle.std.proofs.lemmas.Bool.{cases_lt}
 use Rattle.std.specs.Prelude.{codes}
-use lib.Dec.{ltb}
-use lib.ListN.{length, take, drop, length-append}
+use lib.ListN.{length, take, drop}
+use Rattle.std.proofs.Common.{length-append}
 use lib.Seq.{take_at}
 use lib.Ieee.{Float, binary64, to_bits}
 use Rattle.std.specs.Result.{result_and}
@@ -20,7 +20,6 @@ use Rattle.refusal.specs.RefusalRow.{row}
 use Rattle.refusal.specs.declared.Refusal.{Refusal}
 use Rattle.refusal.proofs.Scans.{after_ok}
 use Rattle.problem.specs.Problem.{Problem, count}
-use Rattle.schur.specs.Reduced.{is_valid}
 use Rattle.schur.specs.declared.reduced_system.ReducedSystem.{ReducedSystem}
 use Rattle.problem.specs.Checks as Checks
 use Rattle.optimizer.specs.Assembly.{block_at, reduced_system}
@@ -35,7 +34,7 @@ use Rattle.text.specs.Text.{space, line_feed, with_text, PutsText}
 use Rattle.text.proofs.Decimals.{decimal_length}
 use Rattle.problem.specs.Letters.{letter_of}
 use Rattle.run_list.specs.Lines.{bits_then, run_line, point_line, refused_line}
-use Rattle.run_list.specs.SumLine.{validity, verdict, sum_line}
+use Rattle.run_list.specs.SumLine.{sum_line}
 use Rattle.run_list.specs.Lists.{point_lines, lines_of, check_record, lines_or_refusal, list, max_list, fits_in, NeverNan, WritesList}
 use Rattle.run_record.proofs.Forms.{formed, few_points}
 use Rattle.run_record.proofs.Points.{count_points}
@@ -63,11 +62,11 @@ bits_length x after = length-append (codes " " ++ digits (to_bits binary64 x)) a
 
 run_length : (n : ℕ) (d : Float) → n < 1000 → length (run_line n d) ≤ 25
 unfolding run_line
-run_length n d h = omega (arith, length-append {A = ℕ}, bits_length d (line_feed ∷ []), three n h)
+run_length n d h = simp length-append (omega (arith, bits_length d (line_feed ∷ []), three n h))
 
 point_length : (i l : ℕ) → length (point_line i l) ≡ 5 + length (decimal i)
 unfolding point_line
-point_length i l = omega (arith, length-append {A = ℕ})
+point_length i l = simp length-append (omega arith)
 
 points_length : (p : Problem) (n : ℕ) → n ≤ 1000 → length (point_lines p n) ≤ 6 * n + (n - 10) + (n - 100)
 unfolding point_lines
@@ -78,13 +77,13 @@ points_length p (suc n) h =
 sum_length : (s : ReducedSystem) → s.weak_point_count < 1000 → length (sum_line s) ≤ 46
 unfolding sum_line
 sum_length s h =
-    omega (arith, length-append {A = ℕ}, bits_length s.cost [], bits_length s.squared_residual (space ∷ []), three s.weak_point_count h)
+    simp length-append (omega (arith, bits_length s.cost [], bits_length s.squared_residual (space ∷ []), three s.weak_point_count h))
 
 refused_length : (refusal : Refusal) → length (refused_line refusal) ≤ 203
 unfolding refused_line
 refused_length refusal =
     let r = row refusal in
-    omega (arith, length-append {A = ℕ}, decimal_length r.number, decimal_length r.view, decimal_length r.index)
+    simp length-append (omega (arith, decimal_length r.number, decimal_length r.view, decimal_length r.index))
 
 -- ---- the list
 
@@ -92,7 +91,7 @@ lines_length : (p : Problem) → count p ≤ 512 → length (lines_of p (reduced
 unfolding lines_of
 lines_length p n =
     let w = weak_at_most p in
-    omega (arith, length-append {A = ℕ}, run_length (count p) p.damping (omega arith), points_length p (count p) (omega arith), sum_length (reduced_system p) (omega arith))
+    simp length-append (omega (arith, run_length (count p) p.damping (omega arith), points_length p (count p) (omega arith), sum_length (reduced_system p) (omega arith)))
 
 pub list_fits : (r : List ℕ) → length (list r) ≤ max_list
 unfolding list check_record
