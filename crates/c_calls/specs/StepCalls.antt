@@ -10,7 +10,7 @@ use Rattle.optimizer.specs.declared.step_result.StepResult.{StepResult}
 use Rattle.numerics.specs.Vectors.{◌!◌}
 use Rattle.c_calls.specs.Outcomes.{code, if_lengths_fit, has_length}
 
--- what it gives, the room apart: twelve numbers and the weak count
+-- what it gives, the point steps apart: twelve numbers and the weak count
 abbrev pub step_numbers : StepResult → List Float
 step_numbers s =
     let p = s.pose_step in
@@ -21,28 +21,34 @@ step_count s = s.weak_point_count ∷ []
 
 -- the memory that a call of the whole step may write
 pub record StepMemory : Type 0 where
-  pub room : List Float
+  pub point_steps : List Float
   pub out : List Float
   pub weak : List ℕ
 
 -- The number that comes back is the answer's, and the memory holds its values: the step's, and what
 -- it held before where the call is refused.
-pub record HasStepOutcome (number : ℕ) (room out : List Float) (weak : List ℕ) (a : Outcome StepMemory) : Type 0 where
+pub record HasStepOutcome (number : ℕ) (point_steps out : List Float) (weak : List ℕ)
+    (a : Outcome StepMemory) : Type 0 where
   pub same_number : number ≡ code a.row
-  pub same_room : room ≡ a.values.room
+  pub same_point_steps : point_steps ≡ a.values.point_steps
   pub same_out : out ≡ a.values.out
   pub same_weak : weak ≡ a.values.weak
 
 -- memory that holds this result, and the step of each point
 abbrev pub step_memory : Problem → List Float → StepResult → StepMemory
-step_memory p room s = record { room = Step.point_steps_after p (Ok s) room; out = step_numbers s; weak = step_count s }
+step_memory p point_steps s = record {
+  point_steps = Step.point_steps_after p (Ok s) point_steps;
+  out = step_numbers s;
+  weak = step_count s;
+}
 
 -- row 1 where the rig's length or that of the result's memory does not fit, then the step's own
 -- rows or its result
 unfoldable pub step : Problem → List Float → List Float → List Float → List ℕ → Outcome StepMemory
-step p x room out weak =
-    outcome (record { room = room; out = out; weak = weak })
-    (if_lengths_fit (has_length x 29 && has_length out 12 && has_length weak 1) (map_ok (step_memory p room) (Step.step p (length room))))
+step p x point_steps out weak =
+    outcome (record { point_steps = point_steps; out = out; weak = weak })
+    (if_lengths_fit (has_length x 29 && has_length out 12 && has_length weak 1)
+    (map_ok (step_memory p point_steps) (Step.step p (length point_steps))))
 
 unfoldable pub limit_pose_step : List Float → List Float → Outcome (List Float)
 limit_pose_step x out = outcome out (if_lengths_fit (has_length x 5 && has_length out 5) (Ok (PoseStep.limit_pose_step x)))

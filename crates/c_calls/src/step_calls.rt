@@ -17,7 +17,7 @@ use problem::correspondences::Problem;
 /// - `view1`, `view2` (2n): x, y of each observation
 /// - `inverse_standard_deviations` (n)
 /// - `rig` (29): as for `linearize_point`
-/// - `room` (3n): the step of each point, in units of the baseline
+/// - `point_steps` (3n): the step of each point, in units of the baseline
 /// - `out` (12): pose step (5), cost, squared residual, gradient norm, minimum rcond, RMS of the
 ///   point steps, point damping norm, predicted reduction
 /// - `weak` (1): weak point count
@@ -32,13 +32,13 @@ pub fn step<'a>(
     inverse_standard_deviations: &[f64],
     rig: &[f64],
     damping: f64,
-    room: &mut [f64],
+    point_steps: &mut [f64],
     out: &mut [f64],
     weak: &mut [u16],
 ) -> u64
-    ensures { Calls.HasStepOutcome result room.new out.new weak.new
+    ensures { Calls.HasStepOutcome result point_steps.new out.new weak.new
         (Calls.step (Problems.problem points.now view1.now view2.now inverse_standard_deviations.now (Layout.rig rig.now) damping)
-        rig.now room.old out.old weak.old) }
+        rig.now point_steps.old out.old weak.old) }
 {
     if rig.len() != 29 || out.len() != 12 || weak.len() != 1 {
         return outcomes::lengths();
@@ -51,7 +51,7 @@ pub fn step<'a>(
         rig: layout::rig(rig),
         damping,
     };
-    let step = match optimizer::step(&problem, room) {
+    let step = match optimizer::step(&problem, point_steps) {
         Ok(step) => step,
         Err(refusal) => return outcomes::code(refusal),
     };

@@ -74,7 +74,7 @@ damped_sums o q t s d h e f g = rw (g, f, e, (let_through _ o q h).1) refl
 module _ (p : Problem) (before : List Float) where
   refuses : (e : Refusal) → check_step p (length before) ≡ Err e → StepOutcome p before (Err e) before
   unfolding step
-  refuses e h = record { result = rw h refl; outcome_with_zeros = rw h refl; point_steps = refl; none_refused = λ y. absurd (cc) }
+  refuses e h = record { result = rw h refl; same_outcome = rw h refl; point_steps = refl; none_refused = λ y. absurd (cc) }
 
   pub wrong_length : (length before ≡ length p.points → ⊥) → StepOutcome p before (Err Lengths) before
   wrong_length t = refuses Lengths (lengths_differ p (length before) t)
@@ -97,7 +97,7 @@ module _ (p : Problem) (before : List Float) where
       unfolding step
       done r after e f = record {
         result = e ∙ rw (lengths_agree p (length before) t, ok) refl;
-        outcome_with_zeros = ap (outcome zero_step_result) (e ∙ rw (lengths_agree p (length before) t, ok) refl);
+        same_outcome = ap (outcome zero_step_result) (e ∙ rw (lengths_agree p (length before) t, ok) refl);
         point_steps = f;
         none_refused = λ y. none_refused p ok;
       }

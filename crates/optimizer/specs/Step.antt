@@ -79,8 +79,8 @@ pub record StepOutcome (p : Problem) (before : List Float) (r : Result StepResul
     (after : List Float) : Type 0 where
   -- the answer is the step, or the first row that refuses it
   pub result : r ≡ step p (length before)
-  -- with +0 everywhere beside a refusal
-  pub outcome_with_zeros : outcome zero_step_result r ≡ outcome zero_step_result (step p (length before))
+  -- and so is its outcome, with +0 for each number beside a refusal
+  pub same_outcome : outcome zero_step_result r ≡ outcome zero_step_result (step p (length before))
   -- the memory holds the steps of all points, or, beside a refusal, what it held
   pub point_steps : after ≡ point_steps_after p r before
   -- where rows 1 to 9 let the problem through, nothing but rows 10 and 11 refuses it

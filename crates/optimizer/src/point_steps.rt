@@ -15,7 +15,7 @@ use problem::checks::CheckedProblem;
 use problem::correspondences::ProblemPoint;
 use schur::point_step;
 
-// Over all points: the sum of the squared lengths of their steps, and the sum of their damping norms
+// Over all points, the sum of the squared lengths of their steps and that of their damping norms
 #[derive(Clone, Copy)]
 pub(crate) struct StepSums {
     pub squared: f64,

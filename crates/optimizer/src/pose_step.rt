@@ -13,9 +13,9 @@ use numerics::{extrema, vectors};
 // The most that a step turns or moves the second camera: radians, or parts of the baseline
 const MAX_LENGTH: f64 = 0.5;
 
-/// A pose step (rotation, 3; translation, 2), scaled down where the longer of its two parts is above
-/// 0.5, so that this part is 0.5 long. Where both lengths are NaN the step stays as it is. Refuses
-/// nothing. `limit_pose_step` at its `MAX_LENGTH` of 0.5.
+/// A pose step (rotation, 3; translation, 2), scaled down where the longer of its two parts is
+/// above 0.5, so that this part is 0.5 long. Where both lengths are NaN the step stays as it is.
+/// Refuses nothing. docs/SPECIFICATION.md, "Whole step".
 #[tactic(auto, unfolding(crate::specs::PoseStep::limit_pose_step))]
 pub fn limit_pose_step(x: [f64; 5]) -> [f64; 5]
     ensures { result ≡ PoseStep.limit_pose_step x }

@@ -23,8 +23,8 @@ pub struct StepResult {
     pub squared_residual: f64,
     /// The largest entry of the gradient, each scaled by the root of its Hessian diagonal
     pub gradient_norm: f64,
-    /// At damping zero: how many points have no factor, or one with a reciprocal condition number of
-    /// at most 192ε. At other dampings 0.
+    /// At damping zero: how many points have no factor, or one with a reciprocal condition number
+    /// of at most 192ε. At other dampings 0.
     pub weak_point_count: u16,
     /// At damping zero the least reciprocal condition number of a point's block, 0 where one has no
     /// factor. At other dampings 1.
@@ -38,7 +38,7 @@ pub struct StepResult {
 }
 
 impl StepResult {
-    // Of a problem: from its damped system, its limited pose step, and the sums over its point steps
+    // From a problem's damped system, its limited pose step, and the sums over its point steps
     #[tactic(auto, unfolding(crate::specs::Results::step_result))]
     pub(crate) fn of(
         problem: &CheckedProblem,

@@ -1,8 +1,9 @@
 // SPDX-FileCopyrightText: 2026 Pierre Moulon and OpenMVG Rust contributors
 // SPDX-License-Identifier: MIT OR Apache-2.0
 
-//! One whole step: checks, reduced system, solve, point steps, predicted reduction. `refine_impl` of
-//! kernel/two_view/optimizer.rs, from `reduced_system` to `predicted_reduction`, run once.
+//! One whole step: checks, reduced system, solve, point steps, predicted reduction. It is
+//! `refine_impl` of kernel/two_view/optimizer.rs, from `reduced_system` to `predicted_reduction`,
+//! run once.
 
 ghost use Rattle.std.specs.Prelude.{◌≡◌, IsTrue, Ok};
 ghost use Rattle.std.specs.Result.{result_and};
@@ -42,8 +43,8 @@ pub fn step(problem: &Problem, point_steps: &mut [f64]) -> Result<StepResult, Re
     Ok(StepResult::of(&checked, &system, pose_step, sums))
 }
 
-// The problem, checked by rows 4 to 9. The points are looked at again, in the order of the rows, only
-// where one is refused or row 5 or 7 refuses.
+// The problem, checked by rows 4 to 9. The points are looked at again, in the order of the rows,
+// only where one is refused or row 5 or 7 refuses.
 fn checked(problem: ReadableProblem<'_>, accepted: bool) -> Result<CheckedProblem<'_>, Refusal>
     requires { IsTrue accepted → Checks.AcceptsFirst problem (Problems.count problem) }
     ensures { result ≡ result_and (Checks.check_problem problem.entry) (Ok problem.entry) }

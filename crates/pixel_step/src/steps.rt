@@ -13,7 +13,7 @@ use c_calls::step_calls;
 /// - `view1`, `view2` (2n): x, y of each observation
 /// - `inverse_standard_deviations` (n)
 /// - `rig` (29): as for `pixel_step_linearize_point`
-/// - `room` (3n): the step of each point, in units of the baseline
+/// - `point_steps` (3n): the step of each point, in units of the baseline
 /// - `out` (12): pose step (5), cost, squared residual, gradient norm, minimum rcond, RMS of the
 ///   point steps, point damping norm, predicted reduction
 /// - `weak` (1): weak point count
@@ -28,13 +28,13 @@ pub extern "C" fn pixel_step_step<'a>(
     inverse_standard_deviations: &[f64],
     rig: &[f64],
     damping: f64,
-    room: &mut [f64],
+    point_steps: &mut [f64],
     out: &mut [f64],
     weak: &mut [u16],
 ) -> u64
-    ensures { Calls.HasStepOutcome result room.new out.new weak.new
+    ensures { Calls.HasStepOutcome result point_steps.new out.new weak.new
         (Calls.step (Problem.problem points.now view1.now view2.now inverse_standard_deviations.now (Layout.rig rig.now) damping)
-        rig.now room.old out.old weak.old) }
+        rig.now point_steps.old out.old weak.old) }
 {
     step_calls::step(
         points,
@@ -43,7 +43,7 @@ pub extern "C" fn pixel_step_step<'a>(
         inverse_standard_deviations,
         rig,
         damping,
-        room,
+        point_steps,
         out,
         weak,
     )

@@ -1,11 +1,13 @@
 -- Lengths that belong to a count, and checks item by item. Assumes nothing.
-use mathlib.Core.Path.{◌≡◌, refl, sym, ap, ◌∙◌}
-use mathlib.Core.Bool.{Bool, true, false, ◌&&◌}
+use mathlib.Core.Path.{◌≡◌, refl, ap, ◌∙◌}
+use mathlib.Core.Bool.{Bool, true, ◌&&◌}
 use mathlib.Core.List.{List, [], ◌∷◌}
 use Prim.Native.Nat.{ℕ, ◌+◌, ◌*◌, ◌/◌, ◌%◌, ◌<◌}
 use native.Mathlib.Omega.{arith}
-use native.Mathlib.Nat.{div-add-mod', mul_comm, add-zero}
-use borrow.Author.Tests.{eqb-true, eqb-false, eq-eqb}
+use native.Mathlib.Nat.{div-add-mod', mul_comm}
+use borrow.Author.Tests.{eqb-true, eq-eqb}
+use Rattle.std.specs.Cmp.{both_ways}
+use Rattle.std.proofs.lemmas.Bool.{and_parts}
 use lib.Arith.{digits_div, digits_mod}
 use lib.Dec.{eqb}
 use lib.ListN.{get_or}
@@ -26,26 +28,20 @@ use Rattle.problem.specs.Checks.{check_view, check_projection}
 -- how a loop over indexes meets a scan for the first refusal
 pub ruleset scans = (leaves, goes_on, ends)
 
--- by quotient and remainder
+-- a length is e · n exactly if its quotient by e is n and its remainder 0
 pub multiple : (l e n : ℕ) → 0 < e → (eqb (l / e) n && eqb (l % e) 0) ≡ eqb l (e * n)
-multiple l e n h = by (eqb l (e * n)) refl
+multiple l e n h = both_ways _ _ there back
   where
-    same : l ≡ e * n → l ≡ n * e + 0
-    same q = q ∙ mul_comm e n ∙ sym (add-zero (n * e))
+    there : (eqb (l / e) n && eqb (l % e) 0) ≡ true → eqb l (e * n) ≡ true
+    there t =
+        let parts = and_parts _ _ t in
+        let whole = rw (eqb-true (l / e) n parts.0, eqb-true (l % e) 0 parts.1) at (div-add-mod' l e) in
+        eq-eqb l (e * n) (omega (arith, whole, mul_comm n e))
 
-    back : l / e ≡ n → l % e ≡ 0 → l ≡ e * n
-    back q r = sym (div-add-mod' l e) ∙ ap (λ (k : ℕ). k * e + l % e) q ∙ ap (λ (k : ℕ). n * e + k) r ∙ add-zero (n * e) ∙ mul_comm n e
-
-    parts : (s t : Bool) → eqb (l / e) n ≡ s → eqb (l % e) 0 ≡ t → (l ≡ e * n → ⊥) → (s && t) ≡ false
-    parts true true p q different = absurd (different (back (eqb-true (l / e) n p) (eqb-true (l % e) 0 q)))
-    parts true false p q different = refl
-    parts false t p q different = refl
-
-    by : (b : Bool) → eqb l (e * n) ≡ b → (eqb (l / e) n && eqb (l % e) 0) ≡ b
-    by true q =
-        let m = same (eqb-true l (e * n) q) in
-        rw (eq-eqb (l / e) n (ap (λ (k : ℕ). k / e) m ∙ digits_div n h), eq-eqb (l % e) 0 (ap (λ (k : ℕ). k % e) m ∙ digits_mod n h)) refl
-    by false q = parts (eqb (l / e) n) (eqb (l % e) 0) refl refl (eqb-false l (e * n) q)
+    back : eqb l (e * n) ≡ true → (eqb (l / e) n && eqb (l % e) 0) ≡ true
+    back t =
+        let whole : l ≡ n * e + 0 = omega (arith, eqb-true l (e * n) t, mul_comm n e) in
+        rw (eq-eqb (l / e) n (ap (λ (k : ℕ). k / e) whole ∙ digits_div n h), eq-eqb (l % e) 0 (ap (λ (k : ℕ). k % e) whole ∙ digits_mod n h)) refl
 
 -- ---- the views of a point, by their place in the list of both
 

@@ -1,13 +1,16 @@
 -- The longest list: 4,057 bytes. Assumes nothing.
 use mathlib.Core.Path.{◌≡◌, refl, ap, ◌∙◌}
-use mathlib.Core.Bool.{Bool, true, false}
+use mathlib.Core.Bool.{true, false}
 use mathlib.Core.List.{List, [], ◌∷◌, ◌++◌}
-use Prim.Native.Nat.{ℕ, zero, suc, ◌+◌, ◌*◌, ◌-◌, ◌/◌, ◌≤◌, ◌<◌}
+use Prim.Native.Nat.{ℕ, zero, suc, ◌+◌, ◌*◌, ◌-◌, ◌≤◌, ◌<◌}
 use native.Mathlib.Omega.{arith}
 use native.Mathlib.Nat.{zero-add}
-use borrow.Author.Tests.{ltb-true, ltb-false, lt-leb, le-leb}
-use lib.Dec.{ltb}
-use lib.ListN.{length, take, drop, length-append}
+use borrow.Author.Tests.{lt-leb, le-leb}
+use mathlib.Core.Logic.{◌⊎◌, inl, inr}
+use Rattle.std.proofs.lemmas.Bool.{cases_lt}
+use Rattle.std.specs.Prelude.{codes}
+use lib.ListN.{length, take, drop}
+use Rattle.std.proofs.Common.{length-append}
 use lib.Seq.{take_at}
 use lib.Ieee.{Float, binary64, to_bits}
 use Rattle.std.specs.Result.{result_and}
@@ -17,7 +20,6 @@ use Rattle.refusal.specs.RefusalRow.{row}
 use Rattle.refusal.specs.declared.Refusal.{Refusal}
 use Rattle.refusal.proofs.Scans.{after_ok}
 use Rattle.problem.specs.Problem.{Problem, count}
-use Rattle.schur.specs.Reduced.{is_valid}
 use Rattle.schur.specs.declared.reduced_system.ReducedSystem.{ReducedSystem}
 use Rattle.problem.specs.Checks as Checks
 use Rattle.optimizer.specs.Assembly.{block_at, reduced_system}
@@ -32,7 +34,7 @@ use Rattle.text.specs.Text.{space, line_feed, with_text, PutsText}
 use Rattle.text.proofs.Decimals.{decimal_length}
 use Rattle.problem.specs.Letters.{letter_of}
 use Rattle.run_list.specs.Lines.{bits_then, run_line, point_line, refused_line}
-use Rattle.run_list.specs.SumLine.{validity, verdict, sum_line}
+use Rattle.run_list.specs.SumLine.{sum_line}
 use Rattle.run_list.specs.Lists.{point_lines, lines_of, check_record, lines_or_refusal, list, max_list, fits_in, NeverNan, WritesList}
 use Rattle.run_record.proofs.Forms.{formed, few_points}
 use Rattle.run_record.proofs.Points.{count_points}
@@ -43,93 +45,53 @@ use Rattle.text.proofs.Puts.{put_fits, put_length}
 three : (n : ℕ) → n < 1000 → length (decimal n) ≤ 3
 three n h = length-decimal-le 3 n (omega arith) h (omega arith)
 
+-- one digit, and one more from 10 and from 100 on
+digits_counted : (n : ℕ) → n < 1000 → length (decimal n) + (n - 10) + (n - 100) ≤ 1 + (suc n - 10) + (suc n - 100)
+digits_counted n h = by (cases_lt n 10) (cases_lt n 100)
+  where
+    by : (n < 10) ⊎ (10 ≤ n) → (n < 100) ⊎ (100 ≤ n) → length (decimal n) + (n - 10) + (n - 100) ≤ 1 + (suc n - 10) + (suc n - 100)
+    by (inl k) y = omega (arith, length-decimal-le 1 n (omega arith) k (omega arith))
+    by (inr k) (inl l) = omega (arith, length-decimal-le 2 n (omega arith) l (omega arith))
+    by (inr k) (inr l) = omega (arith, three n h)
+
 -- ---- lines
 
 bits_length : (x : Float) (after : List ℕ) → length (bits_then x after) ≡ 17 + length after
 unfolding bits_then
-bits_length x after = length-append (space ∷ [] ++ digits (to_bits binary64 x)) after
+bits_length x after = length-append (codes " " ++ digits (to_bits binary64 x)) after
 
 run_length : (n : ℕ) (d : Float) → n < 1000 → length (run_line n d) ≤ 25
 unfolding run_line
-run_length n d h =
-    let a = length-append (114 ∷ 117 ∷ 110 ∷ space ∷ [] ++ decimal n) (bits_then d (line_feed ∷ [])) in
-    let b = length-append (114 ∷ 117 ∷ 110 ∷ space ∷ []) (decimal n) in
-    let c = bits_length d (line_feed ∷ []) in
-    let k = three n h in
-    omega arith
+run_length n d h = simp length-append (omega (arith, bits_length d (line_feed ∷ []), three n h))
 
 point_length : (i l : ℕ) → length (point_line i l) ≡ 5 + length (decimal i)
 unfolding point_line
-point_length i l =
-    let a = length-append (112 ∷ space ∷ [] ++ decimal i) (space ∷ l ∷ line_feed ∷ []) in
-    let b = length-append (112 ∷ space ∷ []) (decimal i) in
-    omega arith
+point_length i l = simp length-append (omega arith)
 
--- a line for each of n points: one digit, and one more from 10 and from 100 on
 points_length : (p : Problem) (n : ℕ) → n ≤ 1000 → length (point_lines p n) ≤ 6 * n + (n - 10) + (n - 100)
 unfolding point_lines
 points_length p zero h = omega arith
 points_length p (suc n) h =
-    let a = length-append (point_lines p n) (point_line n (letter_of (block_at p n) p.damping)) in
-    let b = point_length n (letter_of (block_at p n) p.damping) in
-    let c = points_length p n (omega arith) in
-    by (ltb n 10) (ltb n 100) refl refl a b c
-  where
-    by : (x y : Bool) → ltb n 10 ≡ x → ltb n 100 ≡ y
-        → length (point_lines p n ++ point_line n (letter_of (block_at p n) p.damping)) ≡ length (point_lines p n) + length (point_line n (letter_of (block_at p n) p.damping))
-        → length (point_line n (letter_of (block_at p n) p.damping)) ≡ 5 + length (decimal n) → length (point_lines p n) ≤ 6 * n + (n - 10) + (n - 100)
-        → length (point_lines p n ++ point_line n (letter_of (block_at p n) p.damping)) ≤ 6 * suc n + (suc n - 10) + (suc n - 100)
-    by true y e f a b c = let k = length-decimal-le 1 n (omega arith) (ltb-true n 10 e) (omega arith) in omega arith
-    by false true e f a b c = let i = ltb-false n 10 e in let k = length-decimal-le 2 n (omega arith) (ltb-true n 100 f) (omega arith) in omega arith
-    by false false e f a b c = let i = ltb-false n 100 f in let k = three n (omega arith) in omega arith
+    omega (arith, length-append (point_lines p n) (point_line n (letter_of (block_at p n) p.damping)), point_length n (letter_of (block_at p n) p.damping), points_length p n (omega arith), digits_counted n (omega arith))
 
 sum_length : (s : ReducedSystem) → s.weak_point_count < 1000 → length (sum_line s) ≤ 46
 unfolding sum_line
 sum_length s h =
-    let w = decimal s.weak_point_count in
-    let end : List ℕ = space ∷ validity (is_valid s) ∷ space ∷ verdict (is_valid s) s.weak_point_count ∷ line_feed ∷ [] in
-    let x = bits_then s.cost [] in
-    let y = bits_then s.squared_residual (space ∷ []) in
-    let a = length-append (115 ∷ 117 ∷ 109 ∷ [] ++ x ++ y ++ w) end in
-    let b = length-append (115 ∷ 117 ∷ 109 ∷ [] ++ x ++ y) w in
-    let c = length-append (115 ∷ 117 ∷ 109 ∷ [] ++ x) y in
-    let d = length-append (115 ∷ 117 ∷ 109 ∷ []) x in
-    let e = bits_length s.cost [] in
-    let f = bits_length s.squared_residual (space ∷ []) in
-    let k = three s.weak_point_count h in
-    omega arith
+    simp length-append (omega (arith, bits_length s.cost [], bits_length s.squared_residual (space ∷ []), three s.weak_point_count h))
 
 refused_length : (refusal : Refusal) → length (refused_line refusal) ≤ 203
 unfolding refused_line
 refused_length refusal =
     let r = row refusal in
-    let x : List ℕ = 114 ∷ 101 ∷ 102 ∷ 117 ∷ 115 ∷ 101 ∷ 100 ∷ space ∷ [] in
-    let n = decimal r.number in
-    let v = decimal r.view in
-    let i = decimal r.index in
-    let a = length-append (x ++ n ++ (space ∷ []) ++ v ++ (space ∷ []) ++ i) (line_feed ∷ []) in
-    let b = length-append (x ++ n ++ (space ∷ []) ++ v ++ (space ∷ [])) i in
-    let c = length-append (x ++ n ++ (space ∷ []) ++ v) (space ∷ []) in
-    let d = length-append (x ++ n ++ (space ∷ [])) v in
-    let e = length-append (x ++ n) (space ∷ []) in
-    let f = length-append x n in
-    let k = decimal_length r.number in
-    let l = decimal_length r.view in
-    let m = decimal_length r.index in
-    omega arith
+    simp length-append (omega (arith, decimal_length r.number, decimal_length r.view, decimal_length r.index))
 
 -- ---- the list
 
-lines_length : (p : Problem) → Checks.check_problem p ≡ Ok tt → count p ≤ 512 → length (lines_of p (reduced_system p)) ≤ max_list
+lines_length : (p : Problem) → count p ≤ 512 → length (lines_of p (reduced_system p)) ≤ max_list
 unfolding lines_of
-lines_length p e n =
-    let m = weak_at_most p in
-    let a = length-append (run_line (count p) p.damping ++ point_lines p (count p)) (sum_line (reduced_system p)) in
-    let b = length-append (run_line (count p) p.damping) (point_lines p (count p)) in
-    let c = run_length (count p) p.damping (omega arith) in
-    let d = points_length p (count p) (omega arith) in
-    let f = sum_length (reduced_system p) (omega arith) in
-    omega arith
+lines_length p n =
+    let w = weak_at_most p in
+    simp length-append (omega (arith, run_length (count p) p.damping (omega arith), points_length p (count p) (omega arith), sum_length (reduced_system p) (omega arith)))
 
 pub list_fits : (r : List ℕ) → length (list r) ≤ max_list
 unfolding list check_record
@@ -140,7 +102,7 @@ list_fits r = by (result_and (Form.check_form r) (Checks.check_problem (run r)))
         let checks = after_ok (Form.check_form r) (Checks.check_problem (run r)) e in
         let few = few_points r (formed r checks.0) in
         let n = count_points r (point_fields r) in
-        lines_length (run r) checks.1 (omega arith)
+        lines_length (run r) (omega arith)
     by (Err f) e = let h = refused_length f in omega arith
 
 -- the sum line's cost and squared residual are never NaN

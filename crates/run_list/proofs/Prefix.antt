@@ -3,12 +3,12 @@
 -- which nothing but the number is printed.
 -- Assumes nothing.
 use mathlib.Core.Path.{◌≡◌, refl, sym, ap, ◌∙◌}
-use mathlib.Core.Bool.{Bool, true, false}
 use mathlib.Core.List.{List}
-use Prim.Native.Nat.{ℕ, ◌+◌, ◌<◌}
+use Prim.Native.Nat.{ℕ, ◌+◌, ◌<◌, ◌≤◌}
 use native.Mathlib.Omega.{arith}
-use borrow.Author.Tests.{leb-true, leb-false, lt-leb}
-use lib.Dec.{leb}
+use borrow.Author.Tests.{lt-leb}
+use mathlib.Core.Logic.{◌⊎◌, inl, inr}
+use Rattle.std.proofs.lemmas.Bool.{cases_lt}
 use lib.ListN.{length, take}
 use lib.Seq.{take_all, length-take-le}
 use Rattle.refusal.specs.declared.Refusal.TheVariants.{RecordTooLong}
@@ -22,11 +22,10 @@ unfolding list check_record Form.check_form
 too_long r h = rw (lt-leb (length r) max_record h) refl
 
 pub prefix_decides : (r : List ℕ) → list (take (max_record + 1) r) ≡ list r
-prefix_decides r = by (leb (length r) (max_record + 1)) refl
+prefix_decides r = by (cases_lt (max_record + 1) (length r))
   where
-    by : (b : Bool) → leb (length r) (max_record + 1) ≡ b → list (take (max_record + 1) r) ≡ list r
-    by true e = ap list (take_all (max_record + 1) r (leb-true (length r) (max_record + 1) e))
-    by false e =
-        let h = leb-false (length r) (max_record + 1) e in
+    by : (max_record + 1 < length r) ⊎ (length r ≤ max_record + 1) → list (take (max_record + 1) r) ≡ list r
+    by (inl h) =
         let n = length-take-le (max_record + 1) r (omega arith) in
         too_long (take (max_record + 1) r) (omega arith) ∙ sym (too_long r (omega arith))
+    by (inr h) = ap list (take_all (max_record + 1) r h)

@@ -1,4 +1,5 @@
--- The lines of a list, the list of a record, and what holds of every list.
+-- The lines of a list, the list of a record, and the theorems about every list.
+-- docs/SPECIFICATION.md, "List".
 pub mod Lines
 pub mod SumLine
 pub mod Lists

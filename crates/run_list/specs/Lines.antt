@@ -1,28 +1,26 @@
--- The lines of a list but its sum: single spaces, and a line feed ends each.
-use Rattle.std.specs.Prelude.{ℕ, List, [], ◌∷◌, ◌++◌, Float}
+-- The lines of a list but its sum, of src/lines.rt: single spaces stand between words, and a line
+-- feed ends each line. docs/SPECIFICATION.md, "List".
+use Rattle.std.specs.Prelude.{ℕ, List, [], ◌∷◌, ◌++◌, Float, codes}
 use Rattle.std.specs.Float.{binary64}
 use Rattle.std.specs.Float.Ieee.{to_bits}
-use Rattle.refusal.specs.RefusalRow.{row}
+use Rattle.std.specs.Fmt.{decimal}
+use Rattle.refusal.specs.RefusalRow.{refusal_text}
 use Rattle.refusal.specs.declared.Refusal.{Refusal}
 use Rattle.text.specs.Hex.{digits}
-use Rattle.std.specs.Fmt.{decimal}
 use Rattle.text.specs.Text.{space, line_feed}
 
--- a space, the bits of a number as 16 capital hex digits, and what follows them
+-- a space, the bits of a number as 16 capital hexadecimal digits, and the text behind them
 unfoldable pub bits_then : Float → List ℕ → List ℕ
-bits_then x after = space ∷ [] ++ digits (to_bits binary64 x) ++ after
+bits_then x after = codes " " ++ digits (to_bits binary64 x) ++ after
 
--- `run`, n, damping bits
+-- run N DAMPING, the damping by its bits
 unfoldable pub run_line : ℕ → Float → List ℕ
-run_line n damping = 114 ∷ 117 ∷ 110 ∷ space ∷ [] ++ decimal n ++ bits_then damping (line_feed ∷ [])
+run_line n damping = codes "run " ++ decimal n ++ bits_then damping (line_feed ∷ [])
 
--- `p`, index, letter
+-- p INDEX LETTER
 unfoldable pub point_line : ℕ → ℕ → List ℕ
-point_line i l = 112 ∷ space ∷ [] ++ decimal i ++ (space ∷ l ∷ line_feed ∷ [])
+point_line i letter = codes "p " ++ decimal i ++ (space ∷ letter ∷ line_feed ∷ [])
 
--- `refused`, number, view, index
+-- refused NUMBER VIEW INDEX
 unfoldable pub refused_line : Refusal → List ℕ
-refused_line refusal =
-    let r = row refusal in
-    114 ∷ 101 ∷ 102 ∷ 117 ∷ 115 ∷ 101 ∷ 100 ∷ space ∷ [] ++ decimal r.number ++ (space ∷ []) ++ decimal r.view ++ (space ∷ []) ++ decimal r.index
-    ++ (line_feed ∷ [])
+refused_line refusal = refusal_text refusal ++ (line_feed ∷ [])

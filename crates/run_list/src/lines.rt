@@ -1,4 +1,5 @@
-// The lines of a list: words and numbers with single spaces between, and a line feed at the end.
+//! The lines of a list, one function a line: words and numbers with single spaces between, and a
+//! line feed at the end. docs/SPECIFICATION.md, "List".
 
 mod sum;
 
@@ -9,7 +10,7 @@ use refusal::Refusal;
 pub(crate) use sum::put_sum;
 use text::{Writer, hex_digits};
 
-// `run`, the number of points, the damping's bits
+// run N DAMPING: the number of points, the damping's bits
 pub(crate) fn put_run(writer: &mut Writer, n: u32, damping: f64)
     ensures { Text.AppendsText (Lines.run_line n damping) writer.old writer.new }
 {
@@ -18,7 +19,7 @@ pub(crate) fn put_run(writer: &mut Writer, n: u32, damping: f64)
     put_bits(writer, damping, b"\n");
 }
 
-// A space, a number's bits, and what follows them
+// A space, a number's bits in hexadecimal, and the text `after`
 pub(crate) fn put_bits(writer: &mut Writer, x: f64, after: &[u8])
     ensures { Text.AppendsText (Lines.bits_then x after.now) writer.old writer.new }
 {
@@ -26,7 +27,7 @@ pub(crate) fn put_bits(writer: &mut Writer, x: f64, after: &[u8])
     writer.put_three(b" ", &digits, after);
 }
 
-// `p`, the index, the letter as it stands in the text
+// p INDEX LETTER: the letter in ASCII
 #[tactic(auto, using(text::proofs::Wrote::wrote_both), unfolding(crate::specs::Lines::point_line))]
 pub(crate) fn put_point(writer: &mut Writer, i: u32, letter: u8)
     ensures { Text.AppendsText (Lines.point_line i letter) writer.old writer.new }
@@ -35,7 +36,7 @@ pub(crate) fn put_point(writer: &mut Writer, i: u32, letter: u8)
     writer.put_decimal_then(i, &[b' ', letter, b'\n']);
 }
 
-// `refused`, number, view, index
+// refused NUMBER VIEW INDEX: the text of the refusal, and a line feed
 pub(crate) fn put_refused(writer: &mut Writer, refusal: Refusal)
     ensures { Text.AppendsText (Lines.refused_line refusal) writer.old writer.new }
 {

@@ -1,4 +1,4 @@
-//! The list of a run record.
+//! The list of a run record (`list`), and the greatest lengths of both.
 
 mod list;
 

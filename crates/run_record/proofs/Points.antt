@@ -87,8 +87,8 @@ module _ (r : List ℕ) (at : ℕ) (p : Problem) (read : ReadTo r at p) where
   before : at < length r → count p < point_fields r
   before b = let e = read.place in omega arith
 
-  pub room : at + 67 ≤ length r → length r ≤ max_record → count p < 512
-  room b l = let e = read.place in omega arith
+  pub few : at + 67 ≤ length r → length r ≤ max_record → count p < 512
+  few b l = let e = read.place in omega arith
 
   pub goes_on : (next : ℕ) (q : Problem) (bytes : List ℕ) → field_at r Point at ≡ Ok bytes → next ≡ at + 67 → next ≤ length r
       → q ≡ with_point p (correspondence bytes) → ReadTo r next q
@@ -116,3 +116,6 @@ module _ (r : List ℕ) (at : ℕ) (p : Problem) (read : ReadTo r at p) where
 
   pub broken : (refusal : Refusal) → at < length r → check_field r Point at ≡ Err refusal → check_points r ≡ Err refusal
   broken refusal b e = Scans.leaves (check_points r) (check_point r) (point_fields r) (count p) read.scanned refusal (before b) (ap (λ (x : ℕ). check_field r Point x) (sym read.place) ∙ e)
+
+-- the pass over the point fields: one more, the end, and a broken one
+pub ruleset passes = (few, ended, broken)

@@ -1,13 +1,15 @@
--- A run record's bytes, where its fields begin, and what a field carries.
+-- The fields of a run record, of src/fields.rt: one tag byte, the payload's length in two bytes,
+-- low byte first, and the payload. docs/SPECIFICATION.md, "Run record".
 use Rattle.std.specs.Prelude.{ℕ, ◌+◌, ◌*◌, ◌-◌, ◌/◌, List, length, get_or, take, drop}
 use Rattle.run_record.specs.declared.fields.Field.{Field}
-use Rattle.run_record.specs.declared.fields.Field.TheVariants.{Camera1, Camera2, Pose, Basis, Damping, Point}
+use Rattle.run_record.specs.declared.fields.Field.TheVariants.{Camera1, Camera2, Pose, Basis}
+use Rattle.run_record.specs.declared.fields.Field.TheVariants.{Damping, Point}
 
--- the byte at an offset
+-- the byte at an offset, or 0 behind the end
 abbrev pub byte : List ℕ → ℕ → ℕ
 byte r i = get_or r i 0
 
--- the tag of a field, and the bytes of its payload
+-- the byte that a field begins with
 abbrev pub tag : Field → ℕ
 tag Camera1 = 1
 tag Camera2 = 2
@@ -16,6 +18,7 @@ tag Basis = 4
 tag Damping = 5
 tag Point = 6
 
+-- the bytes of its payload, eight for each number
 abbrev pub size : Field → ℕ
 size Camera1 = 40
 size Camera2 = 40
@@ -24,7 +27,7 @@ size Basis = 56
 size Damping = 8
 size Point = 64
 
--- where the fields begin: each has three bytes before its payload
+-- the byte where each field begins: 3 + size behind the field before it
 abbrev pub camera1_at : ℕ
 camera1_at = 0
 
@@ -43,13 +46,14 @@ damping_at = 244
 abbrev pub points_at : ℕ
 points_at = 255
 
+-- the byte where the field of point i begins
 abbrev pub point_at : ℕ → ℕ
 point_at i = points_at + 67 * i
 
--- how many point fields begin before the end
+-- n, the number of point fields that begin within the record: ⌈(length − 255) ÷ 67⌉
 abbrev pub point_fields : List ℕ → ℕ
 point_fields r = (length r - points_at + 66) / 67
 
--- the payload of the field that begins at a byte: what stands behind the three bytes before it
+-- the payload of the field that begins at a byte: what stands behind its tag and its length
 abbrev pub payload : List ℕ → Field → ℕ → List ℕ
 payload r field start = take (size field) (drop (start + 3) r)

@@ -1,13 +1,13 @@
--- The place of a reader in a record's bytes.
+-- How the reader of src/reader.rt goes on in a record's bytes.
 use Rattle.std.specs.Prelude.{ℕ, ◌+◌, ◌≡◌}
 use Rattle.run_record.specs.Fields.{size}
 use Rattle.run_record.specs.declared.fields.Field.{Field}
 use Rattle.run_record.specs.declared.reader.Reader.{Reader}
 
--- at another place in the same bytes
+-- it reads the same bytes, and stands at a place
 abbrev pub MovesTo : Reader → Reader → ℕ → Type 0
 MovesTo old new at = (new.bytes ≡ old.bytes) × (new.at ≡ at)
 
--- behind the field at its place: three bytes and the payload
+-- it stands behind the field at its place: three bytes and the payload
 abbrev pub MovesPast : Reader → Reader → Field → Type 0
 MovesPast old new field = MovesTo old new (old.at + 3 + size field)

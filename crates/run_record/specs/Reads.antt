@@ -1,4 +1,4 @@
--- What is handed out of a record, field by field.
+-- What the reader of src/reader.rt hands out, field by field. docs/SPECIFICATION.md, "Run record".
 use Rattle.std.specs.Prelude.{ℕ, List, Result, Ok}
 use Rattle.std.specs.Result.{result_and}
 use Rattle.std.specs.Borrow.{Bor}

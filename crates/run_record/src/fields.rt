@@ -1,15 +1,16 @@
-// The fields of a run record: a tag, the length of the payload in two bytes, low byte first, and
-// the payload, which is numbers of eight bytes.
+//! The fields of a run record: a tag, the length of the payload in two bytes, low byte first, and
+//! the payload, which is numbers of eight bytes. docs/SPECIFICATION.md, "Run record".
 
 ghost use Rattle.std.specs.Prelude.{◌≡◌};
 ghost use Rattle.run_record.specs.Fields as Fields;
 
-// The bytes before a payload
+// The bytes before a payload: the tag and the length
 pub(crate) const HEAD_SIZE: usize = 3;
 
 // The bytes of a number
 pub(crate) const NUMBER_SIZE: usize = 8;
 
+// The kinds of field, in the order in which they are due
 #[derive(Clone, Copy, Debug, PartialEq, Eq)]
 pub(crate) enum Field {
     Camera1,

@@ -1,4 +1,4 @@
-// The numbers of a payload: eight bytes each, low byte first.
+//! The numbers of a payload: binary64, eight bytes each, low byte first.
 
 ghost use Rattle.std.specs.Prelude.{◌≡◌, ◌≤◌, ◌*◌, ◌+◌, length};
 ghost use Rattle.run_record.specs.Run as Runs;
@@ -35,7 +35,7 @@ fn numbers_at<const N: usize>(payload: &[u8], at: usize) -> [f64; N]
     array::from_fn(|j| number_at(payload, at + NUMBER_SIZE * j))
 }
 
-// What a camera's field carries
+// What a camera's field carries: fx, fy, cx, cy, skew
 #[tactic(auto, unfolding(crate::specs::Run::camera))]
 pub(crate) fn camera(payload: &[u8]) -> PinholeCamera
     requires { length payload.now ≡ 40 }
@@ -51,7 +51,8 @@ pub(crate) fn camera(payload: &[u8]) -> PinholeCamera
     }
 }
 
-// What the pose's field carries and what the basis's does
+// What the pose's field carries (rotation, 9; translation, 3) and what the basis's does (two
+// vectors, 6; baseline)
 pub(crate) fn pose(pose: &[u8], basis: &[u8]) -> RelativePose
     requires pose { length pose.now ≡ 96 }
     requires basis { length basis.now ≡ 56 }
@@ -65,7 +66,8 @@ pub(crate) fn pose(pose: &[u8], basis: &[u8]) -> RelativePose
     }
 }
 
-// What a point's field carries
+// What a point's field carries: the point (3), both observations (2 and 2), the inverse standard
+// deviation
 pub(crate) fn correspondence(payload: &[u8]) -> Correspondence
     requires { length payload.now ≡ 64 }
     ensures { result ≡ Runs.correspondence payload.now }

@@ -1,5 +1,5 @@
-// The reader of a record's fields: `field_at` over bytes and a place, and above it `Reader`, which
-// goes from field to field.
+//! The reader of a record's fields: `field_at` over bytes and a place, and above it `Reader`, which
+//! goes from field to field, over each byte once.
 
 ghost use Rattle.std.specs.Prelude.{◌≡◌, ◌≤◌, IfOk, OnOk, OnErr, ◌==◌, length};
 ghost use Rattle.run_record.specs.Fields as Fields;
@@ -9,7 +9,7 @@ ghost use Rattle.run_record.specs.Reads as Reads;
 use crate::fields::{Field, HEAD_SIZE};
 use refusal::Refusal;
 
-// The payload of the field that is due at a place; row 15 where that field is broken
+// The payload of the field that is due at a place. Refuses: row 15, where that field is broken.
 #[tactic(auto, using(crate::proofs::Forms::whole_fits))]
 fn field_at(bytes: &[u8], start: usize, field: Field) -> Result<&[u8], Refusal>
     requires fits { length bytes.now ≤ Form.max_record }
@@ -59,8 +59,8 @@ impl<'a> Reader<'a> {
         self.at == self.bytes.len()
     }
 
-    // The payload of the field at the reader's place, behind which the reader goes on. Row 15 where
-    // that field is broken, and then the reader stays.
+    // The payload of the field at the reader's place, behind which the reader goes on. Refuses: row
+    // 15, where that field is broken; the reader then stays.
     #[tactic(auto, using(crate::proofs::Forms::field_fits))]
     pub(crate) fn next_field(&mut self, field: Field) -> Result<&'a [u8], Refusal>
         ensures payload { let reader = self.old in

@@ -1,4 +1,4 @@
-//! The run that a record holds.
+//! The run that a record holds: docs/SPECIFICATION.md, "Run record".
 
 ghost use Rattle.std.specs.Prelude.{◌≡◌, ◌<◌, ◌≤◌, ◌+◌, ◌++◌, [], take, Ok, OnOk, length};
 ghost use Rattle.std.specs.Result.{result_and};
@@ -16,13 +16,13 @@ use problem::correspondences::{Problem, Rig};
 use refusal::Refusal;
 use std::marker::Model;
 
-/// No record is longer: 512 points.
+/// The most bytes of a record, which 512 points have; row 14 refuses more.
 pub const MAX_RECORD: usize = 34559;
 
 // The most points of a record
 const MAX_POINTS: usize = 512;
 
-/// A run of at most 512 points, with room for as many.
+/// A run of at most 512 points, held by value. In clauses it is the record `Problem`.
 #[derive(Drop)]
 pub struct Run {
     points: [f64; 3 * MAX_POINTS],
@@ -80,7 +80,7 @@ impl Run {
         self.count = n + 1;
     }
 
-    /// The run as a problem of the optimizer, lent.
+    /// The run, lent to the optimizer as a two-view problem.
     pub fn problem<'a>(&'a self) -> Problem<'a>
         ensures { result ≡ self.now }
     {
@@ -104,8 +104,9 @@ fn put<const N: usize>(list: &mut [f64], at: usize, numbers: [f64; N])
     list[at..at + N].copy_from_slice(&numbers);
 }
 
-/// The run that a record holds. Refuses a record that is longer than `MAX_RECORD` (row 14), and one
-/// with a broken field, of which it tells the byte where the first one begins (row 15).
+/// The run that a record holds. The record is read once, from its first byte to its last: each
+/// field is tested as it is read. Refuses: row 14, a record longer than `MAX_RECORD`; then row 15,
+/// a broken field, with the byte where the first one begins as index.
 #[tactic(auto, unfolding(crate::specs::Form::check_form))]
 pub fn read(record: &[u8]) -> Result<Run, Refusal>
     ensures { result ≡ result_and (Form.check_form «record».now) (Ok (Runs.run «record».now)) }
@@ -122,7 +123,7 @@ pub fn read(record: &[u8]) -> Result<Run, Refusal>
     Ok(run)
 }
 
-// The fields before the points: a run with no point yet
+// The fields before the points: a run with no point yet. Refuses: row 15.
 fn read_header(reader: &mut Reader) -> Result<Run, Refusal>
     requires { reader.old.at ≡ 0 }
     ensures header { let r = reader.old.bytes.now in
@@ -142,8 +143,8 @@ fn read_header(reader: &mut Reader) -> Result<Run, Refusal>
     Ok(Run::new(rig, payload::number_at(damping, 0)))
 }
 
-// The fields of the points, to the record's end
-#[tactic(auto, using(crate::proofs::Points::room, crate::proofs::Points::ended, crate::proofs::Points::broken))]
+// Reads the fields of the points, to the record's end. Refuses: row 15.
+#[tactic(auto, using(crate::proofs::Points::passes))]
 fn read_points(reader: &mut Reader, run: &mut Run) -> Result<(), Refusal>
     requires place { reader.old.at ≡ Fields.points_at }
     requires none { run.old ≡ Runs.first_points reader.old.bytes.now 0 }

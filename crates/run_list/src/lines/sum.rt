@@ -1,4 +1,4 @@
-// The line of a list's sums and of its verdict.
+//! The line of a list's sums and of its verdict: docs/SPECIFICATION.md, "List".
 
 ghost use Rattle.std.specs.Prelude.{◌≡◌};
 ghost use Rattle.run_list.specs.SumLine as SumLine;
@@ -7,7 +7,7 @@ ghost use Rattle.text.specs.Text as Text;
 use schur::reduced_system::ReducedSystem;
 use text::Writer;
 
-// `sum`, cost and squared residual bits, weak count, validity, verdict
+// sum COST SQUARED WEAK VALIDITY VERDICT: the bits of cost and squared residual, the weak count
 pub(crate) fn put_sum(writer: &mut Writer, system: ReducedSystem)
     ensures { Text.AppendsText (SumLine.sum_line system) writer.old writer.new }
 {
@@ -22,13 +22,14 @@ pub(crate) fn put_sum(writer: &mut Writer, system: ReducedSystem)
     );
 }
 
+// `y` or `n`: the system is valid, or not
 fn validity(valid: bool) -> u8
     ensures { result ≡ SumLine.validity valid }
 {
     if valid { b'y' } else { b'n' }
 }
 
-// `u`: the run can be used
+// `u` or `x`: the run can be used, or not
 fn verdict(valid: bool, weak: u16) -> u8
     ensures { result ≡ SumLine.verdict valid weak }
 {

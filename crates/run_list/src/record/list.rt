@@ -1,4 +1,6 @@
-// The list of a run record.
+//! The list of a run record: docs/SPECIFICATION.md, "List". The record is read once, by
+//! `run_record::run::read`; what is listed is the run that it gave.
+
 ghost use Rattle.std.specs.Prelude.{◌≡◌};
 ghost use Rattle.problem.specs.Checks as Checks;
 ghost use Rattle.problem.specs.Letters as Letters;
@@ -18,12 +20,14 @@ use std::error::Error;
 use std::fmt;
 use text::Writer;
 
-/// No list has more bytes.
+/// The most bytes of a list: a buffer of so many always suffices
+/// (`run_list::no_list_is_longer`).
 pub const MAX_LIST: usize = 4057;
 
-/// A lent buffer has less than the bytes that the list needs.
+/// A lent buffer has fewer bytes than the list.
 #[derive(Clone, Copy, Debug, PartialEq, Eq)]
 pub struct TooSmall {
+    /// The bytes of the list
     pub needed: usize,
 }
 
@@ -36,8 +40,10 @@ impl fmt::Display for TooSmall {
 
 impl Error for TooSmall {}
 
-/// Writes the list of a record into out, and answers its length. Where it does not fit, nothing is
-/// written.
+/// Writes the list of a record, of any length, to the front of `out`, and gives the list's length
+/// in bytes; the bytes behind it stay. Refuses nothing: a record that row 14, row 15 or rows 3 to
+/// 9 refuse, in this order, has a list of one line that says so. `TooSmall` where the list does
+/// not fit; then nothing is written. The record is read once.
 pub fn write_list(record: &[u8], out: &mut [u8]) -> Result<usize, TooSmall>
     ensures { Lists.WritesList «record».now out.old result out.new }
 {
@@ -50,7 +56,7 @@ pub fn write_list(record: &[u8], out: &mut [u8]) -> Result<usize, TooSmall>
     Ok(length)
 }
 
-// The list of any record: rows 14 and 15 first
+// Puts the list of any record, read once: rows 14 and 15 are tested as it is read.
 #[tactic(auto, unfolding(text::specs::Text::AppendsText, crate::specs::Lists::list, crate::specs::Lists::check_record))]
 fn put_list(out: &mut [u8], record: &[u8]) -> usize
     ensures { Text.PutsText (Lists.list «record».now) 0 out.old result out.new }
@@ -63,10 +69,10 @@ fn put_list(out: &mut [u8], record: &[u8]) -> usize
     writer.at
 }
 
-// The list of a run: rows 3 to 9, then the lines
+// Puts the list of a run: rows 3 to 9, then the lines.
 fn put_listed(writer: &mut Writer, problem: &Problem)
-    ensures { Text.AppendsText (Lists.lines_or_refusal problem.now (Checks.check_problem problem.now))
-        writer.old writer.new }
+    ensures { let p = problem.now in
+        Text.AppendsText (Lists.lines_or_refusal p (Checks.check_problem p)) writer.old writer.new }
 {
     match CheckedProblem::new(problem) {
         Ok(checked) => put_lines(writer, &checked),
@@ -74,7 +80,7 @@ fn put_listed(writer: &mut Writer, problem: &Problem)
     }
 }
 
-// The lines of a run that is not refused
+// Puts the lines of a run that is not refused.
 #[tactic(auto, using(text::proofs::Wrote::wrote_both), unfolding(crate::specs::Lists::lines_of))]
 fn put_lines(writer: &mut Writer, problem: &CheckedProblem)
     ensures { Text.AppendsText (Lists.lines_of problem.now (Assembly.reduced_system problem.now))
@@ -86,7 +92,7 @@ fn put_lines(writer: &mut Writer, problem: &CheckedProblem)
     lines::put_sum(writer, assembly::reduced_system(problem));
 }
 
-// A line for each point, with its index
+// Puts a line for each point, with its index.
 #[tactic(auto, using(crate::proofs::Runs::no_lines, crate::proofs::Runs::next_line))]
 fn put_points(writer: &mut Writer, problem: &CheckedProblem)
     ensures { Text.AppendsText (Lists.point_lines problem.now (Problems.count problem.now))
@@ -100,7 +106,7 @@ fn put_points(writer: &mut Writer, problem: &CheckedProblem)
     }
 }
 
-// How the block of a point factors at a damping
+// The letter of a point: how its block factors at a damping
 fn letter_of(point: ProblemPoint, damping: ValidDamping) -> u8
     ensures { result ≡ Letters.letter_of
         (Assembly.block_at point.entry.fitting.now point.entry.index) damping }

@@ -16,7 +16,7 @@ loop-index-preserved c =
     let step = ap (λ (m : PointStep). m.step) e in
     record {
       within = c.loop-index.invariant.within;
-      filled = filled_next _ _ _ _ _ _ c.loop-index.invariant.filled (c.copy_from_slice.ensures.after ∙ step);
+      filled = filled_next _ _ _ _ _ c.loop-index.invariant.filled (c.copy_from_slice.ensures.after ∙ step) (omega arith);
       squares = squared_next _ _ _ _ _ _ c.loop-index.invariant.squares step c.squared_norm-squared.ensures;
       norms = norm_next _ _ _ _ _ c.loop-index.invariant.norms e;
     }

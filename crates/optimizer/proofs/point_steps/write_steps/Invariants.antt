@@ -8,7 +8,7 @@ abbrev pub invariant-loop-index : goal.invariant-loop-index
 invariant-loop-index l =
     record {
       within : l.index-end ≡ count l.problem;
-      filled : Filled l.problem l.pose_step l.initial.point_steps l.index l.point_steps;
+      filled : Filled l.problem l.pose_step l.index l.point_steps;
       squares : l.squared ≡ (sums_to l.problem l.pose_step l.index).squared;
       norms : l.damping_norm ≡ (sums_to l.problem l.pose_step l.index).damping_norm;
     }
