@@ -1,5 +1,5 @@
--- Lists of calls of `add` of schur.rs: what the calls answer and leave; the counters, which see only
--- the blocks and the dampings; and the blocks taken in.
+-- Lists of calls of `add` of schur.rs: what the calls answer and leave; the counters, which see
+-- only the blocks and the dampings; and the blocks taken in.
 -- docs/SPECIFICATION.md, "Sequences of adds".
 use Rattle.std.specs.Prelude.{ℕ, suc, ◌≡◌, Bool, true, false, not, ◌&&◌, ◌||◌, if◌then◌else◌}
 use Rattle.std.specs.Prelude.{nat_lt, List, [], ◌∷◌, Float, Result, Ok, Err, Option, Some, None, is_ok}

@@ -37,7 +37,8 @@ pub fn step<'a>(
     weak: &mut [u16],
 ) -> u64
     ensures { Calls.HasStepOutcome result point_steps.new out.new weak.new
-        (Calls.step (Problems.problem points.now view1.now view2.now inverse_standard_deviations.now (Layout.rig rig.now) damping)
+        (Calls.step (Problems.problem points.now view1.now view2.now
+        inverse_standard_deviations.now (Layout.rig rig.now) damping)
         rig.now point_steps.old out.old weak.old) }
 {
     if rig.len() != 29 || out.len() != 12 || weak.len() != 1 {

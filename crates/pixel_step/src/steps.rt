@@ -33,7 +33,8 @@ pub extern "C" fn pixel_step_step<'a>(
     weak: &mut [u16],
 ) -> u64
     ensures { Calls.HasStepOutcome result point_steps.new out.new weak.new
-        (Calls.step (Problem.problem points.now view1.now view2.now inverse_standard_deviations.now (Layout.rig rig.now) damping)
+        (Calls.step (Problem.problem points.now view1.now view2.now
+        inverse_standard_deviations.now (Layout.rig rig.now) damping)
         rig.now point_steps.old out.old weak.old) }
 {
     step_calls::step(
