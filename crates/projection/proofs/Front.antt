@@ -1,10 +1,8 @@
 -- A point is in front of the camera where five comparisons with the depth and its negative hold.
 -- Assumes nothing.
-use mathlib.Core.Path.{◌≡◌, refl, sym, ap, subst, ◌∙◌}
-use mathlib.Core.Bool.{Bool, true, false, not, ◌&&◌, not-not, and-true, and-false}
-use mathlib.Core.List.{List, [], ◌∷◌}
+use Rattle.std.proofs.Common.{◌≡◌, refl, sym, ap, subst, ◌∙◌, Bool, true, false, not, ◌&&◌, T, List, [], ◌∷◌}
+use mathlib.Core.Bool.{not-not, and-true, and-false}
 use Rattle.std.specs.Bool.{passes}
-use lib.Dec.{T}
 use lib.Ieee.{Float, binary64, lt, le, neg, fits}
 use lib.Ieee.Fits.{and_l, and_r, and_i}
 use Rattle.std.proofs.lemmas.Bool.{false_from_ne_true}
@@ -32,9 +30,11 @@ module _ (x y z : Float) (p : T (fits binary64 z)) where
   abbrev limit : Float
   limit = relative_tolerance ⊗ fold_max sizes
 
+  -- such a coordinate is finite
   near_finite : (u : Float) → T (near u) → T (float_is_finite (relative_tolerance ⊗ u)) × T (float_is_finite u)
   near_finite u h = let k = finite_below (relative_tolerance ⊗ u) z h in (k, (finite_mul binary64 relative_tolerance u k).1)
 
+  -- a depth near itself is above 0
   depth_positive : T (near z) → T (lt zero z)
   depth_positive h =
       let u = relative_tolerance ⊗ z in
@@ -47,6 +47,7 @@ module _ (x y z : Float) (p : T (fits binary64 z)) where
   reorder false a b true k = absurd (k tt)
 
   module _ (h : T (float_is_finite x)) (k : T (float_is_finite y)) (l : T (float_is_finite z)) where
+    -- of finite coordinates, the depth is above the limit where all are near
     above_limit : not (le z limit) ≡ (near z && near x && near y)
     above_limit =
         ap not (sym (not_lt limit z (nonneg_not_nan limit (passes _ (floor_clear sizes _ refl))) (finite_not_nan z l)))
@@ -54,11 +55,13 @@ module _ (x y z : Float) (p : T (fits binary64 z)) where
         ∙ floor_below z (x ∷ y ∷ z ∷ []) (unfold all_finite in and_i _ _ h (and_i _ _ k (and_i _ _ l tt)))
         ∙ reorder (lt zero z) (near x) (near y) (near z) depth_positive
 
+  -- and all of them are finite where all are near
   all_finite_near : T (near z && near x && near y) → T (float_is_finite x) × T (float_is_finite y) × T (float_is_finite z)
   all_finite_near t =
       let s = and_l (near z && near x) (near y) t in
       ((near_finite x (and_r (near z) (near x) s)).1, (near_finite y (and_r (near z && near x) (near y) t)).1, (near_finite z (and_l (near z) (near x) s)).1)
 
+  -- whatever the coordinates
   front : (float_is_finite x && float_is_finite y && float_is_finite z && not (le z limit)) ≡ (near z && near x && near y)
   front = by (float_is_finite x) (float_is_finite y) (float_is_finite z) refl refl refl
     where
