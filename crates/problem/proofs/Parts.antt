@@ -1,18 +1,9 @@
 -- Lengths that belong to a count, and checks item by item. Assumes nothing.
-use mathlib.Core.Path.{◌≡◌, refl, ap, ◌∙◌}
-use mathlib.Core.Bool.{Bool, true, ◌&&◌}
-use mathlib.Core.List.{List, [], ◌∷◌}
-use Prim.Native.Nat.{ℕ, ◌+◌, ◌*◌, ◌/◌, ◌%◌, ◌<◌}
-use native.Mathlib.Omega.{arith}
-use native.Mathlib.Nat.{div-add-mod', mul_comm}
-use borrow.Author.Tests.{eqb-true, eq-eqb}
+use Rattle.std.proofs.Common.{◌≡◌, refl, ap, ◌∙◌, Bool, true, ◌&&◌, List, [], ◌∷◌, ℕ, ◌+◌, ◌*◌, ◌/◌, ◌%◌, ◌<◌, arith, div-add-mod', mul_comm, eqb-true, eq-eqb, eqb, get_or, Result, Ok, Err}
 use Rattle.std.specs.Cmp.{both_ways}
 use Rattle.std.proofs.lemmas.Bool.{and_parts}
 use lib.Arith.{digits_div, digits_mod}
-use lib.Dec.{eqb}
-use lib.ListN.{get_or}
 use lib.Ieee.{Float}
-use Rattle.std.specs.Prelude.{Result, Ok, Err}
 use Rattle.std.specs.Result.{result_and, is_ok}
 use Rattle.refusal.specs.FirstRefusal.{CheckResult, refuse_unless, first_refusal_from}
 use Rattle.refusal.specs.declared.Refusal.{Refusal}

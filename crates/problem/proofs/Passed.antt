@@ -1,10 +1,5 @@
 -- What rows 1 to 9 leave. Assumes nothing.
-use mathlib.Core.Path.{◌≡◌, refl, ◌∙◌}
-use mathlib.Core.Bool.{true, ◌&&◌}
-use Prim.Native.Nat.{ℕ, ◌*◌, ◌≤◌, ◌<◌}
-use borrow.Author.Tests.{eqb-true, leb-true, eq-eqb}
-use lib.Dec.{eqb, leb, le→leb}
-use Rattle.std.specs.Prelude.{Ok, Err, is_ok}
+use Rattle.std.proofs.Common.{◌≡◌, refl, ◌∙◌, true, ◌&&◌, ℕ, ◌*◌, ◌≤◌, ◌<◌, eqb-true, leb-true, eq-eqb, eqb, leb, le→leb, Ok, Err, is_ok}
 use Rattle.std.specs.Result.{result_and}
 use lib.Ieee.Bits.{is_true}
 use Rattle.std.proofs.lemmas.Bool.{and_parts}

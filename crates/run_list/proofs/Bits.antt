@@ -1,7 +1,5 @@
 -- A number's bits as digits. Assumes nothing.
-use mathlib.Core.Path.{◌≡◌, refl}
-use mathlib.Core.List.{List, [], ◌∷◌, ◌++◌}
-use Prim.Native.Nat.{ℕ}
+use Rattle.std.proofs.Common.{◌≡◌, refl, List, [], ◌∷◌, ◌++◌, ℕ}
 use lib.Ieee.{Float, binary64, to_bits}
 use Rattle.text.specs.Hex.{digits}
 use Rattle.text.specs.Text.{space}

@@ -1,20 +1,9 @@
 -- The longest list: 4,057 bytes. Assumes nothing.
-use mathlib.Core.Path.{◌≡◌, refl, ap, ◌∙◌}
-use mathlib.Core.Bool.{true, false}
-use mathlib.Core.List.{List, [], ◌∷◌, ◌++◌}
-use Prim.Native.Nat.{ℕ, zero, suc, ◌+◌, ◌*◌, ◌-◌, ◌≤◌, ◌<◌}
-use native.Mathlib.Omega.{arith}
-use native.Mathlib.Nat.{zero-add}
-use borrow.Author.Tests.{lt-leb, le-leb}
-use mathlib.Core.Logic.{◌⊎◌, inl, inr}
+use Rattle.std.proofs.Common.{length-append, ◌≡◌, refl, ap, ◌∙◌, true, false, List, [], ◌∷◌, ◌++◌, ℕ, zero, suc, ◌+◌, ◌*◌, ◌-◌, ◌≤◌, ◌<◌, arith, zero-add, le-leb, ◌⊎◌, inl, inr, codes, length, take, drop, take_at, Ok, Err}
+use borrow.Author.Tests.{lt-leb}
 use Rattle.std.proofs.lemmas.Bool.{cases_lt}
-use Rattle.std.specs.Prelude.{codes}
-use lib.ListN.{length, take, drop}
-use Rattle.std.proofs.Common.{length-append}
-use lib.Seq.{take_at}
 use lib.Ieee.{Float, binary64, to_bits}
 use Rattle.std.specs.Result.{result_and}
-use Rattle.std.specs.Prelude.{Ok, Err}
 use Rattle.refusal.specs.FirstRefusal.{CheckResult}
 use Rattle.refusal.specs.RefusalRow.{row}
 use Rattle.refusal.specs.declared.Refusal.{Refusal}

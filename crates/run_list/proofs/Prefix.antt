@@ -2,15 +2,9 @@
 -- 34,560 bytes, one more than the longest record has. A longer record is refused by row 14, of
 -- which nothing but the number is printed.
 -- Assumes nothing.
-use mathlib.Core.Path.{◌≡◌, refl, sym, ap, ◌∙◌}
-use mathlib.Core.List.{List}
-use Prim.Native.Nat.{ℕ, ◌+◌, ◌<◌, ◌≤◌}
-use native.Mathlib.Omega.{arith}
+use Rattle.std.proofs.Common.{◌≡◌, refl, sym, ap, ◌∙◌, List, ℕ, ◌+◌, ◌<◌, ◌≤◌, arith, ◌⊎◌, inl, inr, length, take, take_all, length-take-le}
 use borrow.Author.Tests.{lt-leb}
-use mathlib.Core.Logic.{◌⊎◌, inl, inr}
 use Rattle.std.proofs.lemmas.Bool.{cases_lt}
-use lib.ListN.{length, take}
-use lib.Seq.{take_all, length-take-le}
 use Rattle.refusal.specs.declared.Refusal.TheVariants.{RecordTooLong}
 use Rattle.run_record.specs.Form as Form
 use Rattle.run_record.specs.Form.{max_record}

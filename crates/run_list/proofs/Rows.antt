@@ -1,11 +1,6 @@
 -- The run of a record of the right form never meets row 1 or 2. Assumes nothing.
-use mathlib.Core.Path.{◌≡◌, refl}
-use mathlib.Core.List.{List}
-use Prim.Native.Nat.{ℕ, ◌*◌}
-use native.Mathlib.Omega.{arith}
-use borrow.Author.Tests.{eq-eqb, le-leb}
+use Rattle.std.proofs.Common.{◌≡◌, refl, List, ℕ, ◌*◌, arith, eq-eqb, le-leb, Ok}
 use Rattle.numerics.proofs.Fill.{length_tabulate}
-use Rattle.std.specs.Prelude.{Ok}
 use Rattle.problem.specs.Checks.{max_points, check_values, check_problem}
 use Rattle.run_record.specs.Fields.{point_fields}
 use Rattle.run_record.specs.Form as Form

@@ -1,7 +1,5 @@
 -- A run that is not refused, and the lines of its points. Assumes nothing.
-use mathlib.Core.Path.{◌≡◌, ap}
-use Prim.Native.Nat.{ℕ, ◌+◌}
-use native.Mathlib.Numerals.{add-one}
+use Rattle.std.proofs.Common.{◌≡◌, ap, ℕ, ◌+◌, add-one}
 use Rattle.optimizer.specs.Assembly.{block_at}
 use Rattle.problem.specs.Problem.{Problem}
 use Rattle.problem.specs.Letters.{letter_of}

@@ -1,13 +1,5 @@
 -- The form of a record: what the tests of its fields say. Assumes nothing.
-use mathlib.Core.Path.{◌≡◌, refl, sym}
-use mathlib.Core.Bool.{Bool, true, false, ◌&&◌, true≢false}
-use mathlib.Core.List.{List}
-use Prim.Native.Nat.{ℕ, zero, suc, ◌+◌, ◌*◌, ◌≤◌}
-use native.Mathlib.Omega.{arith}
-use borrow.Author.Tests.{leb-true}
-use lib.Dec.{eqb, leb}
-use lib.ListN.{length}
-use Rattle.std.specs.Prelude.{Ok}
+use Rattle.std.proofs.Common.{◌≡◌, refl, sym, Bool, true, false, ◌&&◌, true≢false, List, ℕ, zero, suc, ◌+◌, ◌*◌, ◌≤◌, arith, leb-true, eqb, leb, length, Ok}
 use Rattle.refusal.specs.FirstRefusal.{refuse_unless, first_refusal_from}
 use Rattle.refusal.specs.declared.Refusal.TheVariants.{RecordTooLong}
 use Rattle.refusal.proofs.Scans.{after_ok, held, all_ok}

@@ -1,8 +1,5 @@
 -- The fields before the points. Assumes nothing.
-use mathlib.Core.Path.{◌≡◌, refl}
-use mathlib.Core.List.{List, []}
-use Prim.Native.Nat.{ℕ}
-use Rattle.std.specs.Prelude.{Ok, Err}
+use Rattle.std.proofs.Common.{◌≡◌, refl, List, [], ℕ, Ok, Err}
 use Rattle.std.specs.Result.{result_and}
 use Rattle.refusal.specs.FirstRefusal.{CheckResult}
 use Rattle.problem.specs.Problem.{Problem, problem}

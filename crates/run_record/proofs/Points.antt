@@ -1,12 +1,6 @@
 -- The points of a record, read one after the other to its end. Assumes nothing.
-use mathlib.Core.Path.{◌≡◌, refl, sym, ap, ◌∙◌}
-use mathlib.Core.List.{List, [], ◌∷◌, ◌++◌}
-use Prim.Native.Nat.{ℕ, zero, suc, ◌+◌, ◌-◌, ◌*◌, ◌/◌, ◌%◌, ◌<◌, ◌≤◌}
-use native.Mathlib.Nat.{zero-add, suc-add}
-use native.Mathlib.Omega.{arith}
-use lib.ListN.{length}
+use Rattle.std.proofs.Common.{◌≡◌, refl, sym, ap, ◌∙◌, List, [], ◌∷◌, ◌++◌, ℕ, zero, suc, ◌+◌, ◌-◌, ◌*◌, ◌/◌, ◌%◌, ◌<◌, ◌≤◌, zero-add, suc-add, arith, length, Ok, Err}
 use lib.Ieee.{Float}
-use Rattle.std.specs.Prelude.{Ok, Err}
 use Rattle.numerics.specs.Vectors.{tabulate}
 use Rattle.numerics.proofs.Fill.{length_tabulate}
 use Rattle.refusal.specs.declared.Refusal.{Refusal}

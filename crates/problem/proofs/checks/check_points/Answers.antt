@@ -1,5 +1,4 @@
-use mathlib.Core.Path.{ap, ◌∙◌}
-use native.Mathlib.Omega.{arith}
+use Rattle.std.proofs.Common.{ap, ◌∙◌, arith}
 use Rattle.numerics.specs.Vectors.{all_finite}
 use Rattle.refusal.proofs.Scans.{goes_on, is_good}
 use Rattle.problem.proofs.checks.check_points.Goals as goal

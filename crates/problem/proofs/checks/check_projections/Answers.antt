@@ -1,5 +1,4 @@
-use mathlib.Core.Path.{refl, sym}
-use native.Mathlib.Omega.{arith}
+use Rattle.std.proofs.Common.{refl, sym, arith}
 use Rattle.refusal.proofs.Scans.{ends, goes_on, leaves}
 use Rattle.problem.proofs.Parts.{views_begin, seen_check}
 use Rattle.problem.proofs.checks.check_projections.Goals as goal

@@ -1,5 +1,4 @@
-use mathlib.Core.Path.{refl}
-use mathlib.Core.List.{[], ◌∷◌}
+use Rattle.std.proofs.Common.{refl, [], ◌∷◌}
 use Rattle.std.specs.Fmt.{decimal}
 use Rattle.text.specs.Text.{space, line_feed}
 use Rattle.text.proofs.Wrote.{wrote_same, wrote_then}

@@ -1,5 +1,4 @@
-use Rattle.std.proofs.Common.{rules, ◌≡◌, ◌+◌, ◌≤◌, length}
-use Rattle.std.specs.Prelude.{Ok}
+use Rattle.std.proofs.Common.{rules, ◌≡◌, ◌+◌, ◌≤◌, length, Ok}
 use Rattle.run_record.specs.declared.fields.Field.TheVariants.{Point}
 use Rattle.run_record.specs.Reads.{field_at}
 use Rattle.run_record.proofs.Points.{begun, goes_on}

@@ -1,4 +1,4 @@
-use mathlib.Core.Path.{refl}
+use Rattle.std.proofs.Common.{refl}
 use Rattle.text.proofs.Wrote.{wrote_same, wrote_both, wrote_then}
 use Rattle.run_list.specs.SumLine.{sum_line}
 use Rattle.run_list.proofs.lines.sum.put_sum.Goals as goal

@@ -1,6 +1,5 @@
 -- `record::list::write_list` meets its contract. Assumes nothing.
-use mathlib.Core.Path.{refl, sym}
-use lib.Seq.{length-take-le}
+use Rattle.std.proofs.Common.{refl, sym, length-take-le}
 use Rattle.run_list.proofs.Bounds.{made_length, not_written, written}
 use Rattle.run_list.proofs.record.list.write_list.Goals as goal
 
