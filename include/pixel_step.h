@@ -4,8 +4,8 @@
  *
  * Numbers are binary64, and vectors and matrices flat arrays, row by row. Each array passes as a
  * pointer and then its length. It has to have that length in memory, and may not overlap an array
- * that the call writes: `out`, `room`, `weak`, or a system that it changes. No call can test
- * either.
+ * that the call writes: `out`, `point_steps`, `weak`, or a system that it changes. No call can
+ * test either.
  *
  * A call with an `out` answers 0 and writes its result there, or answers a refusal as one number
  * and writes nothing; so does a call that changes a system. The refusal's parts are below: the
@@ -28,6 +28,9 @@
  *   row 11  the system of five equations is not solved
  *   row 12  the system's weak count is above its block count
  *   row 13  the system has 65,535 blocks already
+ * and, in the line of a refused record's list alone,
+ *   row 14  the record is longer than 34,559 bytes
+ *   row 15  the record is out of form
  */
 #ifndef PIXEL_STEP_H
 #define PIXEL_STEP_H
@@ -167,8 +170,9 @@ uint64_t pixel_step_system_predicted_reduction(const double *system, size_t syst
 /*
  * One whole step for n points. Rows 1 to 11: the first that holds, at the lowest index; row 8 looks
  * through all of view 1 first, row 9 takes both views of a point before the next point.
- * points (3n); view1 and view2 (2n each); inverse_deviations (n); rig (29), as above
- * room (3n): the step of each point, before any product with the baseline
+ * points (3n); view1 and view2 (2n each); inverse_standard_deviations (n); rig
+ * (29), as above
+ * point_steps (3n): the step of each point, before any product with the baseline
  * out (12): step of the pose, limited, 5; cost; squared residual; gradient norm; smallest rcond;
  * RMS of the point steps; their damping norm; predicted reduction
  * weak (1): weak count
@@ -176,9 +180,10 @@ uint64_t pixel_step_system_predicted_reduction(const double *system, size_t syst
 uint64_t pixel_step_step(const double *points, size_t points_length,
                          const double *view1, size_t view1_length,
                          const double *view2, size_t view2_length,
-                         const double *inverse_deviations, size_t inverse_deviations_length,
+                         const double *inverse_standard_deviations,
+                         size_t inverse_standard_deviations_length,
                          const double *rig, size_t rig_length, double damping,
-                         double *room, size_t room_length,
+                         double *point_steps, size_t point_steps_length,
                          double *out, size_t out_length,
                          uint16_t *weak, size_t weak_length);
 

@@ -2,7 +2,7 @@
 //! 1; the answer is the code that `Refusal::from_code` reads.
 //!
 //! Why these are safe: a call reads no further than the lengths that it is
-//! given, and writes only `out`, the room, the weak count, or the system that it
+//! given, and writes only `out`, the point steps, the weak count, or the system that it
 //! changes, and that only where it answers 0.
 
 use crate::ffi;
@@ -237,17 +237,17 @@ pub fn system_predicted_reduction(
     }
 }
 
-/// For n points: `points` and `room` 3n, `view1` and `view2` 2n,
-/// `inverse_deviations` n; `rig` 29, `out` 12, `weak` 1.
+/// For n points: `points` and `point_steps` 3n, `view1` and `view2` 2n,
+/// `inverse_standard_deviations` n; `rig` 29, `out` 12, `weak` 1.
 #[allow(clippy::too_many_arguments, reason = "as the C interface has them")]
 pub fn step(
     points: &[f64],
     view1: &[f64],
     view2: &[f64],
-    inverse_deviations: &[f64],
+    inverse_standard_deviations: &[f64],
     rig: &[f64],
     damping: f64,
-    room: &mut [f64],
+    point_steps: &mut [f64],
     out: &mut [f64],
     weak: &mut [u16],
 ) -> u64 {
@@ -259,13 +259,13 @@ pub fn step(
             view1.len(),
             view2.as_ptr(),
             view2.len(),
-            inverse_deviations.as_ptr(),
-            inverse_deviations.len(),
+            inverse_standard_deviations.as_ptr(),
+            inverse_standard_deviations.len(),
             rig.as_ptr(),
             rig.len(),
             damping,
-            room.as_mut_ptr(),
-            room.len(),
+            point_steps.as_mut_ptr(),
+            point_steps.len(),
             out.as_mut_ptr(),
             out.len(),
             weak.as_mut_ptr(),
@@ -279,7 +279,7 @@ pub fn limit_pose_step(x: &[f64], out: &mut [f64]) -> u64 {
     unsafe { ffi::pixel_step_limit_pose_step(x.as_ptr(), x.len(), out.as_mut_ptr(), out.len()) }
 }
 
-/// Any record, any room; the answer is the list's length, and it is written where it fits.
+/// Any record, any buffer; the answer is the list's length, and it is written where it fits.
 pub fn write_list(record: &[u8], out: &mut [u8]) -> u64 {
     unsafe {
         ffi::pixel_step_write_list(record.as_ptr(), record.len(), out.as_mut_ptr(), out.len())

@@ -28,9 +28,9 @@ pub struct Step {
     pub predicted_reduction: f64,
 }
 
-/// One whole step; the room, 3n numbers, then has the step of each point. Rows 1
-/// to 11; a refused call leaves the room as it was.
-pub fn step(problem: &Problem<'_>, room: &mut [f64]) -> Result<Step, Refusal> {
+/// One whole step; `point_steps`, 3n numbers, then has the step of each point. Rows 1
+/// to 11; a refused call leaves it as it was.
+pub fn step(problem: &Problem<'_>, point_steps: &mut [f64]) -> Result<Step, Refusal> {
     let mut weak = [0];
     let numbers = filled::<12>(|out| {
         slices::step(
@@ -40,7 +40,7 @@ pub fn step(problem: &Problem<'_>, room: &mut [f64]) -> Result<Step, Refusal> {
             problem.inverse_deviations,
             problem.rig,
             problem.damping,
-            room,
+            point_steps,
             out,
             &mut weak,
         )

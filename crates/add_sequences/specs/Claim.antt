@@ -121,6 +121,7 @@ pub record IsMonotone (s t : ReducedSystem) : Type 0 where
 
 -- ---- the claim
 
+-- What holds of one list of calls, sentence by sentence
 pub record Claim (d : Float) (calls : List Call) : Type 0 where
   -- 1. The list alone decides every figure: any run in which each call answers as the definition of
   -- `add` says has the list's own answers and last system.

@@ -1,5 +1,5 @@
--- What the calls of the whole step and of the limit of a pose step answer, and what the memory that
--- they may write holds afterwards.
+-- What the calls of the whole step and of the limit of a pose step return, and what the memory that
+-- they may write holds afterwards. docs/SPECIFICATION.md, "C interface" and "Whole step".
 use Rattle.std.specs.Prelude.{ℕ, ◌≡◌, ◌&&◌, List, [], ◌∷◌, length, Float, Ok}
 use Rattle.refusal.specs.Outcome.{Outcome, outcome}
 use Rattle.refusal.specs.Chain.{map_ok}
@@ -10,12 +10,16 @@ use Rattle.optimizer.specs.declared.step_result.StepResult.{StepResult}
 use Rattle.numerics.specs.Vectors.{◌!◌}
 use Rattle.c_calls.specs.Outcomes.{code, if_lengths_fit, has_length}
 
--- what it gives, the point steps apart: twelve numbers and the weak count
+-- what a whole step gives, the point steps apart: pose step (5), cost, squared residual, gradient
+-- norm, smallest rcond, RMS of the point steps, their damping norm, predicted reduction
 abbrev pub step_numbers : StepResult → List Float
 step_numbers s =
     let p = s.pose_step in
-    p ! 0 ∷ p ! 1 ∷ p ! 2 ∷ p ! 3 ∷ p ! 4 ∷ s.cost ∷ s.squared_residual ∷ s.gradient_norm ∷ s.minimum_point_rcond ∷ s.point_step_rms ∷ s.point_damping_norm ∷ s.predicted_reduction ∷ []
+    p ! 0 ∷ p ! 1 ∷ p ! 2 ∷ p ! 3 ∷ p ! 4
+    ∷ s.cost ∷ s.squared_residual ∷ s.gradient_norm ∷ s.minimum_point_rcond
+    ∷ s.point_step_rms ∷ s.point_damping_norm ∷ s.predicted_reduction ∷ []
 
+-- the one count beside them
 abbrev pub step_count : StepResult → List ℕ
 step_count s = s.weak_point_count ∷ []
 
@@ -25,8 +29,8 @@ pub record StepMemory : Type 0 where
   pub out : List Float
   pub weak : List ℕ
 
--- The number that comes back is the answer's, and the memory holds its values: the step's, and what
--- it held before where the call is refused.
+-- The number that comes back is the outcome's code, and the memory holds its values: the step's,
+-- and what it held before where the call is refused.
 pub record HasStepOutcome (number : ℕ) (point_steps out : List Float) (weak : List ℕ)
     (a : Outcome StepMemory) : Type 0 where
   pub same_number : number ≡ code a.row
@@ -50,5 +54,8 @@ step p x point_steps out weak =
     (if_lengths_fit (has_length x 29 && has_length out 12 && has_length weak 1)
     (map_ok (step_memory p point_steps) (Step.step p (length point_steps))))
 
+-- row 1 where a length is not 5, and else the limited step
 unfoldable pub limit_pose_step : List Float → List Float → Outcome (List Float)
-limit_pose_step x out = outcome out (if_lengths_fit (has_length x 5 && has_length out 5) (Ok (PoseStep.limit_pose_step x)))
+limit_pose_step x out =
+    outcome out
+    (if_lengths_fit (has_length x 5 && has_length out 5) (Ok (PoseStep.limit_pose_step x)))

@@ -147,7 +147,7 @@ pub fn solve_positive_definite(a: &[f64], b: &[f64], out: &mut [f64]) -> u64
     outcomes::store_result(x, out)
 }
 
-// A function of its own, since the proof of its call closes with no closure in its place
+// The six stored numbers of a factor: a function, since `map` of a closure hides its contract
 fn packed_inverse(factor: PointBlockFactor) -> [f64; 6]
     ensures { result ≡ factor.inverse }
 {

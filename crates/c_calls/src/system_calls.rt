@@ -136,8 +136,7 @@ pub fn system_predicted_reduction(
     outcomes::store_result(reduction.map(one_number), out)
 }
 
-// One number as an array: a function of its own, since the proof of its call closes with no closure
-// in its place
+// One number as an array: a function, since `map` of a closure hides its contract
 fn one_number(x: f64) -> [f64; 1]
     ensures { result ≡ x ∷ [] }
 {

@@ -36,7 +36,9 @@ pub struct LocalLinearization {
 /// A block by the formulas alone, beside whether rows 4 and 9 let its correspondence through
 #[derive(Clone, Copy)]
 pub struct TestedBlock {
+    /// The block, whose entries may be infinite or a NaN
     pub block: LocalLinearization,
+    /// Whether rows 4 and 9 let the correspondence through
     pub accepted: bool,
 }
 
@@ -58,9 +60,9 @@ pub fn linearize_point(
     Ok(block)
 }
 
-/// The same with the verdict as a flag in place of rows 4 and 9: a loop takes it by value, where a
-/// `Result` is copied. Inlined into the loop with all that it calls, so that the block stays where
-/// it is used.
+/// `linearize_point` with the verdict as a flag in place of rows 4 and 9: a loop takes it by value,
+/// where a `Result` is copied. Inlined into the loop with all that it calls, so that the block
+/// stays where it is used.
 #[tactic(auto, unfolding(crate::specs::Linearize::block_of))]
 #[inline(always)]
 pub fn tested_block(rig: &Rig, correspondence: Correspondence) -> TestedBlock

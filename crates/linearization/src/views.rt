@@ -32,8 +32,11 @@ pub struct RelativePose {
 /// The two cameras, and how the second one sits. Camera 1 is the world's frame.
 #[derive(Clone, Copy)]
 pub struct Rig {
+    /// The camera of view 1
     pub camera1: PinholeCamera,
+    /// The camera of view 2
     pub camera2: PinholeCamera,
+    /// How camera 2 sits against camera 1
     pub pose: RelativePose,
 }
 
@@ -53,6 +56,7 @@ pub struct Correspondence {
 /// The weighted rows of view 1
 #[derive(Clone, Copy)]
 pub struct View1 {
+    /// The residual times the weight
     pub residual: [f64; 2],
     /// Each of the ten entries of the pose Jacobian
     pub pose_zero: f64,
@@ -63,6 +67,7 @@ pub struct View1 {
 /// The weighted rows of view 2
 #[derive(Clone, Copy)]
 pub struct View2 {
+    /// The residual times the weight
     pub residual: [f64; 2],
     /// The pose Jacobian, two rows of five
     pub pose: [f64; 10],
@@ -73,9 +78,13 @@ pub struct View2 {
 /// The weighted rows of both views, with their residuals before any weight
 #[derive(Clone, Copy)]
 pub struct LinearizedViews {
+    /// View 1's rows
     pub first: View1,
+    /// View 2's rows
     pub second: View2,
+    /// View 1's residual before the weight, in pixels
     pub residual1: [f64; 2],
+    /// View 2's residual before the weight, in pixels
     pub residual2: [f64; 2],
 }
 

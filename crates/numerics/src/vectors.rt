@@ -20,7 +20,7 @@ pub fn all_finite(values: &[f64]) -> bool
 pub fn dot<const N: usize>(x: [f64; N], y: [f64; N]) -> f64
     ensures { result ≡ Vectors.dot N x.entry y.entry }
 {
-    // in a loop, as by `fold` the proof did not close
+    // a loop, since the prover has no law of a `fold` over the indexes of two arrays
     let mut sum = -0.0;
     for i in 0..N {
         sum += x[i] * y[i];

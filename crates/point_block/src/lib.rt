@@ -32,6 +32,7 @@ pub struct PointBlockFactor {
 /// A factor with the reciprocal condition number that goes with it
 #[derive(Clone, Copy)]
 pub struct ConditionedFactor {
+    /// The factor of the damped matrix
     pub factor: PointBlockFactor,
     /// 1 ÷ (norm of the undamped matrix × norm of the inverse), or +0; never below 0, never a NaN
     pub rcond: f64,

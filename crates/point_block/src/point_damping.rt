@@ -97,8 +97,8 @@ pub fn damping_diagonal(matrix: [f64; 9]) -> Result<[f64; 3], Refusal>
     Ok(damping_diagonal_at(matrix, scale))
 }
 
-/// The same diagonal with no test of the largest entry: a NaN gives way to the floor. Its roots are
-/// the Jacobi scale of a factor.
+/// `damping_diagonal` with no test of the largest entry: a NaN gives way to the floor. Its roots
+/// are the Jacobi scale of a factor.
 pub fn damping_diagonal_of(m: [f64; 9]) -> [f64; 3]
     ensures { result ≡ Damping.damping_diagonal_of m }
 {

@@ -1,5 +1,5 @@
--- The letter that a list gives a point, by how its block factors at the problem's damping: of
--- src/letters.rt. docs/SPECIFICATION.md, "List" and "Reciprocal condition number".
+-- The letter that a list gives a point, by how its block factors at the problem's damping: met
+-- by src/letters.rt. docs/SPECIFICATION.md, "List" and "Reciprocal condition number".
 use Rattle.std.specs.Prelude.{ℕ, if◌then◌else◌, Float, Ok, Err, codes, slice_index}
 use Rattle.point_block.specs.Damping.{is_zero}
 use Rattle.point_block.specs.Condition.{reciprocal_condition_number, is_weak}

@@ -50,7 +50,7 @@ impl<'a> Model for ReadableProblem<'a> {
 /// A problem that rows 1 to 9 let through. In clauses it is the record `Problem`.
 #[derive(Drop)]
 pub struct CheckedProblem<'a> {
-    /// The same problem, as rows 1 to 3 let it through
+    /// The problem as rows 1 to 3 let it through
     pub readable: ReadableProblem<'a>,
 }
 
@@ -73,9 +73,9 @@ impl<'a> ReadableProblem<'a> {
         ensures { result ≡ result_and (Checks.check_readable problem.now) (Ok problem.now) }
     {
         let n = problem.count();
-        let fit = belongs(problem.points.len(), 3, n)
-            && belongs(problem.view1.len(), 2, n)
-            && belongs(problem.view2.len(), 2, n);
+        let fit = is_multiple(problem.points.len(), 3, n)
+            && is_multiple(problem.view1.len(), 2, n)
+            && is_multiple(problem.view2.len(), 2, n);
         if !fit {
             return Err(Refusal::Lengths);
         }
@@ -154,7 +154,7 @@ impl<'a> CheckedProblem<'a> {
 
 // Whether a length is each · n, by no product that could wrap
 #[tactic(auto, using(crate::proofs::Parts::multiple))]
-fn belongs(length: usize, each: usize, n: usize) -> bool
+fn is_multiple(length: usize, each: usize, n: usize) -> bool
     requires { 0 < each }
     ensures { result ≡ (length == each * n) }
 {
@@ -222,20 +222,20 @@ fn check_points(fitting: &FittingProblem) -> Result<(), Refusal>
 fn check_both_views(fitting: &FittingProblem) -> Result<(), Refusal>
     ensures { result ≡ Checks.check_both_views fitting.now }
 {
-    check_view(fitting, View::First)?;
-    check_view(fitting, View::Second)?;
+    check_observations(fitting, View::First)?;
+    check_observations(fitting, View::Second)?;
     check_projections(fitting)
 }
 
 // Row 8, over all points in one view
 #[tactic(auto, using(crate::proofs::Parts::scans))]
-fn check_view(fitting: &FittingProblem, view: View) -> Result<(), Refusal>
+fn check_observations(fitting: &FittingProblem, view: View) -> Result<(), Refusal>
     ensures { let p = fitting.now in
         result ≡ first_refusal_from (Checks.check_observation p view) 0 (Problems.count p) }
 {
     for index in 0..fitting.count() {
         let point = ProblemPoint { fitting, index };
-        if !vectors::all_finite(&point.seen(view)) {
+        if !vectors::all_finite(&point.observation_numbers(view)) {
             return Err(Refusal::Observation { view, index });
         }
     }
@@ -255,7 +255,7 @@ fn check_projections(fitting: &FittingProblem) -> Result<(), Refusal>
             let projected = correspondences::project(
                 fitting.rig(),
                 view,
-                point.seen(view),
+                point.observation_numbers(view),
                 point.coordinates(),
             );
             if projected.is_err() {

@@ -63,6 +63,7 @@ impl<'a> Model for FittingProblem<'a> {
 /// One point of a problem whose lengths fit
 #[derive(Clone, Copy)]
 pub struct ProblemPoint<'p, 'a> {
+    /// The problem that the point is one of
     pub fitting: &'p FittingProblem<'a>,
     /// Below n
     pub index: u32,
@@ -125,7 +126,7 @@ impl<'p, 'a> ProblemPoint<'p, 'a> {
     }
 
     /// The two numbers that a view saw of the point
-    pub fn seen(self, view: View) -> [f64; 2]
+    pub fn observation_numbers(self, view: View) -> [f64; 2]
         ensures { let p = self.entry.fitting.now in
             result ≡ Problems.observation p.view1 p.view2 view self.entry.index }
     {
@@ -141,8 +142,8 @@ impl<'p, 'a> ProblemPoint<'p, 'a> {
         let problem = fitting.problem;
         Correspondence {
             point: self.coordinates(),
-            view1: self.seen(View::First),
-            view2: self.seen(View::Second),
+            view1: self.observation_numbers(View::First),
+            view2: self.observation_numbers(View::Second),
             inverse_standard_deviation: problem.inverse_standard_deviations[self.index as usize],
         }
     }

@@ -52,7 +52,9 @@ pub struct Projection {
 /// `pixel_projection` lets it through
 #[derive(Clone, Copy)]
 pub struct TestedProjection {
+    /// The residual and the Jacobian by the formulas
     pub projection: Projection,
+    /// Whether `pixel_projection` lets them through
     pub projectable: bool,
 }
 
@@ -82,8 +84,8 @@ pub fn pixel_projection(
     }
 }
 
-/// The same with the verdict as a flag in place of row 9: a loop takes it by value, where a
-/// `Result` is copied.
+/// `pixel_projection` with the verdict as a flag in place of row 9: a loop takes it by value, where
+/// a `Result` is copied.
 #[tactic(auto, using(crate::proofs::Laws::projectable_is))]
 #[inline(always)]
 pub fn tested_projection(

@@ -62,9 +62,9 @@ pub enum Refusal {
 /// and all are 0 where nothing is refused.
 #[derive(Clone, Copy, Debug, PartialEq, Eq)]
 pub struct Row {
-    /// The row's number, 1 to 15.
+    /// The row's number, 1 to 15, or 0.
     pub number: u32,
-    /// 1 or 2.
+    /// The view, 1 or 2, or 0.
     pub view: u32,
     /// A point's index from 0; of row 15 the byte at which the broken field begins.
     pub index: u32,

@@ -1,5 +1,5 @@
--- The lines of a list but its sum, of src/lines.rt: single spaces stand between words, and a line
--- feed ends each line. docs/SPECIFICATION.md, "List".
+-- The lines of a list but its sum: single spaces stand between words, and a line feed ends each
+-- line. Met by src/lines.rt. docs/SPECIFICATION.md, "List".
 use Rattle.std.specs.Prelude.{ℕ, List, [], ◌∷◌, ◌++◌, Float, codes}
 use Rattle.std.specs.Float.{binary64}
 use Rattle.std.specs.Float.Ieee.{to_bits}

@@ -1,5 +1,5 @@
--- The list of a run record, of src/record/list.rt: rows 14 and 15, then rows 3 to 9, then the
--- lines. docs/SPECIFICATION.md, "List".
+-- The list of a run record: rows 14 and 15, then rows 3 to 9, then the lines. Met by
+-- src/record/list.rt. docs/SPECIFICATION.md, "List".
 use Rattle.std.specs.Prelude.{ℕ, zero, suc, ◌≤◌, ◌≡◌, Bool, false, if◌then◌else◌, nat_le}
 use Rattle.std.specs.Prelude.{List, [], ◌++◌, length, Result, Ok, Err}
 use Rattle.std.specs.Result.{result_and}

@@ -1,4 +1,5 @@
--- The line of a list's sums and of its verdict, of src/lines/sum.rt. docs/SPECIFICATION.md, "List".
+-- The line of a list's sums and of its verdict: met by src/lines/sum.rt. docs/SPECIFICATION.md,
+-- "List".
 use Rattle.std.specs.Prelude.{ℕ, Bool, ◌&&◌, if◌then◌else◌, List, [], ◌∷◌, ◌++◌, ◌==◌}
 use Rattle.std.specs.Prelude.{codes, slice_index}
 use Rattle.std.specs.Fmt.{decimal}

@@ -1,5 +1,5 @@
--- The fields of a run record, of src/fields.rt: one tag byte, the payload's length in two bytes,
--- low byte first, and the payload. docs/SPECIFICATION.md, "Run record".
+-- The fields of a run record: one tag byte, the payload's length in two bytes, low byte first, and
+-- the payload. Met by src/fields.rt. docs/SPECIFICATION.md, "Run record".
 use Rattle.std.specs.Prelude.{ℕ, ◌+◌, ◌*◌, ◌-◌, ◌/◌, List, length, get_or, take, drop}
 use Rattle.run_record.specs.declared.fields.Field.{Field}
 use Rattle.run_record.specs.declared.fields.Field.TheVariants.{Camera1, Camera2, Pose, Basis}

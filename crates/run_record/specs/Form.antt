@@ -1,5 +1,5 @@
--- The form of a run record, rows 14 and 15, of src/reader.rt and src/run.rt: fields 1 to 5 in
--- order, once each, then a field for each point to the end. docs/SPECIFICATION.md, "Run record".
+-- The form of a run record, rows 14 and 15: fields 1 to 5 in order, once each, then a field for
+-- each point to the end. Met by src/reader.rt and src/run.rt. docs/SPECIFICATION.md, "Run record".
 use Rattle.std.specs.Prelude.{ℕ, ◌+◌, ◌*◌, Bool, ◌&&◌, List, [], ◌∷◌, ◌==◌, nat_le, length}
 use Rattle.refusal.specs.FirstRefusal.{CheckResult, refuse_unless}
 use Rattle.refusal.specs.FirstRefusal.{first_refusal, first_refusal_from}

@@ -1,10 +1,10 @@
--- How the reader of src/reader.rt goes on in a record's bytes.
+-- How the reader of a record goes on in its bytes: met by src/reader.rt.
 use Rattle.std.specs.Prelude.{ℕ, ◌+◌, ◌≡◌}
 use Rattle.run_record.specs.Fields.{size}
 use Rattle.run_record.specs.declared.fields.Field.{Field}
 use Rattle.run_record.specs.declared.reader.Reader.{Reader}
 
--- it reads the same bytes, and stands at a place
+-- the reader reads the same bytes as before, and stands at a place
 abbrev pub MovesTo : Reader → Reader → ℕ → Type 0
 MovesTo old new at = (new.bytes ≡ old.bytes) × (new.at ≡ at)
 

@@ -1,5 +1,5 @@
--- The run that a record of the right form holds, as the two-view problem that it is, of
--- src/payload.rt and src/run.rt. docs/SPECIFICATION.md, "Run record".
+-- The run that a record of the right form holds, as the two-view problem that it is: met
+-- by src/payload.rt and src/run.rt. docs/SPECIFICATION.md, "Run record".
 use Rattle.std.specs.Prelude.{ℕ, ◌+◌, ◌*◌, ◌/◌, ◌%◌, List, [], ◌∷◌, ◌++◌, Float}
 use Rattle.std.specs.Float.{binary64}
 use Rattle.std.specs.Float.Ieee.{of_bits}

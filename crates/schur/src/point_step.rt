@@ -42,7 +42,7 @@ pub fn point_step_with_damping_norm(
     damped_step(PointTerms::from(local), damping, pose_step)
 }
 
-/// The same at a valid damping, from what a step needs of the block. Refuses: row 10.
+/// The step of a point at a valid damping, from what it needs of the block. Refuses: row 10.
 #[tactic(auto, unfolding(crate::specs::PointStep::damped_step))]
 #[inline(always)]
 pub fn damped_step(

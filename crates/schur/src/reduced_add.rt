@@ -35,8 +35,8 @@ pub fn add(
     Ok(system)
 }
 
-/// The same on a lent system, as the Rust's `add(&mut self)`. Refuses: row 3, then row 12, then
-/// row 13; it then leaves the system as it was.
+/// `add` on a lent system, as the Rust's `add(&mut self)`. Refuses: row 3, then row 12, then row
+/// 13; it then leaves the system as it was.
 pub fn add_to(
     system: &mut ReducedSystem,
     local: LocalLinearization,
@@ -50,7 +50,7 @@ pub fn add_to(
     Ok(())
 }
 
-/// The same on a lent system at a valid damping. Refuses: row 12, then row 13; it then leaves the
+/// `add` on a lent system at a valid damping. Refuses: row 12, then row 13; it then leaves the
 /// system as it was. Inlined into the loop that makes the blocks, with all that it calls, so that
 /// neither block nor system is copied.
 #[inline(always)]

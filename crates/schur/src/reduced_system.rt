@@ -80,7 +80,7 @@ impl ReducedSystem {
         Ok(self)
     }
 
-    /// The same on a lent system, at a valid damping
+    /// `finish_damping` on a lent system, at a valid damping
     pub fn damp(&mut self, damping: ValidDamping)
         ensures { self.new ≡ Reduced.with_damping self.old damping }
     {
@@ -123,7 +123,7 @@ impl ReducedSystem {
         Ok(self.reduction_of(step, damping, point_damping_norm))
     }
 
-    /// The same at a valid damping
+    /// `predicted_reduction` at a valid damping
     #[tactic(auto, unfolding(crate::specs::Reduced::reduction_of))]
     pub fn reduction_of(
         &self,

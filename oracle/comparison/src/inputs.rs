@@ -55,7 +55,7 @@ pub fn number(source: &mut Source) -> f64 {
     }
 }
 
-/// The value, or one up to two neighbours away.
+/// The value, or one up to two neighbors away.
 fn nudged(source: &mut Source, value: f64) -> f64 {
     match source.below(8) {
         0 => value.next_up(),
@@ -72,7 +72,7 @@ fn zero(source: &mut Source) -> f64 {
 }
 
 /// Close to a square of a number with few digits, or to the square of what
-/// lies halfway between two neighbours: there the root is hardest to round.
+/// lies halfway between two neighbors: there the root is hardest to round.
 pub fn near_square(source: &mut Source) -> f64 {
     let exponent = 1023 - 537 + source.below(2 * 537) as u64;
     let mut root = exponent << 52 | source.next_bits() & MANTISSA;

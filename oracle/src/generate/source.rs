@@ -5,7 +5,7 @@ pub(super) const fn two_to(exponent: i64) -> f64 {
     f64::from_bits(((1023 + exponent) as u64) << 52)
 }
 
-/// Numbers at which something changes. Negative ones and neighbours are made
+/// Numbers at which something changes. Negative ones and neighbors are made
 /// from these.
 pub const SPECIALS: [f64; 37] = [
     0.0,
@@ -100,7 +100,7 @@ impl Source {
         }
     }
 
-    /// A special, either sign, now and then a neighbour of it.
+    /// A special, either sign, now and then a neighbor of it.
     pub fn special(&mut self) -> f64 {
         let value = SPECIALS[self.below(SPECIALS.len())];
         let value = match self.below(6) {
@@ -151,7 +151,7 @@ impl Source {
         std::array::from_fn(|_| self.moderate())
     }
 
-    /// Puts a special, or a neighbour of what is there, in one to three places.
+    /// Puts a special, or a neighbor of what is there, in one to three places.
     pub fn damage(&mut self, places: &mut [&mut f64]) {
         if places.is_empty() {
             return;

@@ -29,7 +29,7 @@ pub fn correspondence(source: &mut Source) -> (Rig, Correspondence) {
     (rig, correspondence)
 }
 
-/// An inverse standard deviation that row 4 refuses, or a neighbour of one.
+/// An inverse standard deviation that row 4 refuses, or a neighbor of one.
 fn bad_deviation(source: &mut Source) -> f64 {
     match source.below(6) {
         0 => zero(source),

@@ -30,7 +30,7 @@ fn sound(lent: &Lent<'_>, rooms: &mut Rooms<'_>) -> u64 {
     9
 }
 
-/// A neighbour of the result.
+/// A neighbor of the result.
 const NEIGHBOUR: Function = Function {
     port: |lent, rooms| {
         let code = sound(lent, rooms);

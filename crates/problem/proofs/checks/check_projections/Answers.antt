@@ -8,7 +8,7 @@ views-init c = (c.points.invariant.0, views_begin c.args.fitting.now c.points.in
 
 pub views-preserved : goal.views-preserved
 views-preserved c =
-    let e = seen_check c.args.fitting.now c.points.index c.views.view-index _ _ _ _ _ _ refl c.seen.ensures c.coordinates.ensures c.rig.ensures c.project-projected.ensures c.if-is_err.ensures.negation in
+    let e = seen_check c.args.fitting.now c.points.index c.views.view-index _ _ _ _ _ _ refl c.observation_numbers.ensures c.coordinates.ensures c.rig.ensures c.project-projected.ensures c.if-is_err.ensures.negation in
     (c.views.invariant.0, goes_on _ _ _ _ c.views.invariant.1 (omega arith) e)
 
 pub points-preserved : goal.points-preserved
@@ -17,5 +17,5 @@ points-preserved c =
 
 pub returns-then-is_err : goal.returns-then-is_err
 returns-then-is_err c =
-    let e = seen_check c.args.fitting.now c.points.index c.views.view-index _ _ _ _ _ _ refl c.seen.ensures c.coordinates.ensures c.rig.ensures c.project-projected.ensures c.if-is_err.ensures.negation in
+    let e = seen_check c.args.fitting.now c.points.index c.views.view-index _ _ _ _ _ _ refl c.observation_numbers.ensures c.coordinates.ensures c.rig.ensures c.project-projected.ensures c.if-is_err.ensures.negation in
     sym (leaves _ _ _ _ c.points.invariant.2 _ (omega arith) (leaves _ _ _ _ c.views.invariant.1 _ (omega arith) e))

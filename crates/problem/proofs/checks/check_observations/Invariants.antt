@@ -3,7 +3,7 @@ use Rattle.refusal.specs.FirstRefusal.{first_refusal_from}
 use Rattle.refusal.proofs.Scans.{Scanned}
 use Rattle.problem.specs.Problem.{count}
 use Rattle.problem.specs.Checks.{check_observation}
-use Rattle.problem.proofs.checks.check_view.Given as goal
+use Rattle.problem.proofs.checks.check_observations.Given as goal
 
 abbrev pub invariant-loop-index : goal.invariant-loop-index
 invariant-loop-index l =
