@@ -1,12 +1,6 @@
 -- The pass over all points that fills the memory for their steps, and its sums. Assumes nothing.
-use mathlib.Core.Path.{◌≡◌, refl, sym, ap, ◌∙◌}
-use mathlib.Core.List.{List}
-use Prim.Native.Nat.{ℕ, ◌+◌, ◌-◌, ◌*◌, ◌≤◌}
+use Rattle.std.proofs.Common.{◌≡◌, refl, sym, ap, ◌∙◌, List, ℕ, ◌+◌, ◌-◌, ◌*◌, ◌≤◌, add-one, arith, length, take, take_all}
 use borrow.Rule.Slice.PartMut.{put_mid}
-use native.Mathlib.Numerals.{add-one}
-use native.Mathlib.Omega.{arith}
-use lib.ListN.{length, take}
-use lib.Seq.{take_all}
 use Rattle.std.proofs.lemmas.Slice.{take-put_mid}
 use lib.Ieee.{Float}
 use Rattle.numerics.specs.Binary64.{◌⊕◌, zero as zero·}

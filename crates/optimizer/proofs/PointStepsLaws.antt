@@ -1,11 +1,7 @@
 -- On a problem that rows 1 to 9 let through no call within the step is refused; once the system
 -- is valid no point step is, since each block factors. Assumes nothing.
-use mathlib.Core.Path.{◌≡◌, refl, sym, ap, ◌∙◌}
-use mathlib.Core.Bool.{true, true≢false}
-use mathlib.Core.List.{List}
-use Prim.Native.Nat.{ℕ, ◌<◌}
+use Rattle.std.proofs.Common.{◌≡◌, refl, sym, ap, ◌∙◌, true, true≢false, List, ℕ, ◌<◌, Result, Ok, Err, is_ok}
 use lib.Ieee.{Float}
-use Rattle.std.specs.Prelude.{Result, Ok, Err, is_ok}
 use Rattle.refusal.specs.declared.Refusal.{Refusal}
 use Rattle.point_block.specs.Damping.{is_valid_damping}
 use Rattle.point_block.specs.FactorWithRcond.{factor, inverse_at}

@@ -1,9 +1,6 @@
 -- The whole step: what each way out of it gives. Assumes nothing.
-use Rattle.std.proofs.Common.{◌≡◌, ℕ, ◌*◌, List, length, Bool, true, false, refl, sym, ap, ◌∙◌}
-use Rattle.std.specs.Prelude.{Result, Ok, Err}
+use Rattle.std.proofs.Common.{◌≡◌, ℕ, ◌*◌, List, length, Bool, true, false, refl, sym, ap, ◌∙◌, Result, Ok, Err, eqb-true, ne_eqb, eqb}
 use Rattle.std.specs.Result.{result_and}
-use borrow.Author.Tests.{eqb-true, ne_eqb}
-use lib.Dec.{eqb}
 use lib.Ieee.{Float}
 use Rattle.refusal.specs.Outcome.{outcome}
 use Rattle.refusal.specs.FirstRefusal.{CheckResult, refuse_unless}
@@ -60,15 +57,6 @@ let_through : (r : CheckResult) (p q : Problem) → tested r p ≡ Ok q → (r �
 let_through (Ok u) p q k = (refl, cc)
 let_through (Err x) p q k = absurd (cc)
 
--- what rows 1 to 3 leave, and then rows 4 to 9
-pub in_turn : (p q : Problem) (r : Result Problem Refusal) → tested (Checks.check_readable p) p ≡ Ok q → tested (Checks.check_problem q) q ≡ r → tested (Checks.check_problem p) p ≡ r
-in_turn p q r h k = ap (λ (o : Problem). tested (Checks.check_problem o) o) (sym (let_through _ p q h).1) ∙ k
-
--- the sums, made before rows 4 to 9 are asked and damped after them
-pub damped_sums : (o q : Problem) (t s : ReducedSystem) (d : Float) → tested (Checks.check_problem o) o ≡ Ok q → t ≡ system_to o (count o) → d ≡ q.damping → s ≡ with_damping t d → s ≡ reduced_system q
-unfolding reduced_system
-damped_sums o q t s d h e f g = rw (g, f, e, (let_through _ o q h).1) refl
-
 -- ---- the ways out of the whole step
 
 module _ (p : Problem) (before : List Float) where
@@ -83,43 +71,49 @@ module _ (p : Problem) (before : List Float) where
     pub unreadable : (e : Refusal) (r : Result StepResult Refusal) → tested (Checks.check_readable p) p ≡ Err e → r ≡ Err e → StepOutcome p before r before
     unreadable e r h k = rw k (refuses e (lengths_agree p (length before) t ∙ refused_first p e (refused_by _ p e h)))
 
-    pub checks_refused : (e : Refusal) (r : Result StepResult Refusal) → tested (Checks.check_problem p) p ≡ Err e → r ≡ Err e → StepOutcome p before r before
-    checks_refused e r h k = rw k (refuses e (lengths_agree p (length before) t ∙ refused_by _ p e h))
+    module _ (q : Problem) (read : tested (Checks.check_readable p) p ≡ Ok q) where
+      same_read : q ≡ p
+      same_read = (let_through _ p q read).1
 
-    module _ (q : Problem) (h : tested (Checks.check_problem p) p ≡ Ok q) where
-      ok : Checks.check_problem p ≡ Ok tt
-      ok = (let_through _ p q h).0
+      pub checks_refused : (e : Refusal) (r : Result StepResult Refusal) → tested (Checks.check_problem q) q ≡ Err e → r ≡ Err e → StepOutcome p before r before
+      checks_refused e r h k = rw k (refuses e (lengths_agree p (length before) t ∙ ap Checks.check_problem (sym same_read) ∙ refused_by _ q e h))
 
-      same : q ≡ p
-      same = (let_through _ p q h).1
+      module _ (o : Problem) (checked : tested (Checks.check_problem q) q ≡ Ok o) where
+        ok : Checks.check_problem p ≡ Ok tt
+        ok = ap Checks.check_problem (sym same_read) ∙ (let_through _ q o checked).0
 
-      done : (r : Result StepResult Refusal) (after : List Float) → r ≡ step_after_checks p → after ≡ point_steps_after p r before → StepOutcome p before r after
-      unfolding step
-      done r after e f = record {
-        result = e ∙ rw (lengths_agree p (length before) t, ok) refl;
-        same_outcome = ap (outcome zero_step_result) (e ∙ rw (lengths_agree p (length before) t, ok) refl);
-        point_steps = f;
-        none_refused = λ y. none_refused p ok;
-      }
+        same : o ≡ p
+        same = (let_through _ q o checked).1 ∙ same_read
 
-      module _ (s : ReducedSystem) (system : s ≡ reduced_system q) where
-        made : s ≡ reduced_system p
-        made = system ∙ ap reduced_system same
+        done : (r : Result StepResult Refusal) (after : List Float) → r ≡ step_after_checks p → after ≡ point_steps_after p r before → StepOutcome p before r after
+        unfolding step
+        done r after e f =
+            let is : r ≡ step p (length before) = e ∙ rw (lengths_agree p (length before) t, ok) refl in
+            record { result = is; same_outcome = ap (outcome zero_step_result) is; point_steps = f; none_refused = λ y. none_refused p ok }
 
-        pub not_valid : is_valid s ≡ false → StepOutcome p before (Err NotFactored) before
-        unfolding step_after_checks
-        not_valid e = done (Err NotFactored) before (rw (sym made, e) refl) refl
+        -- the sums, made before rows 4 to 9 are asked and damped after them
+        module _ (sums s : ReducedSystem) (d : Float) (a : sums ≡ system_to q (count q)) (f : d ≡ o.damping) (g : s ≡ with_damping sums d) where
+          made : s ≡ reduced_system p
+          unfolding reduced_system
+          made = rw (g, f, a, same, same_read) refl
 
-        module _ (valid : is_valid s ≡ true) where
-          pub not_solved : (e : Refusal) (r : Result StepResult Refusal) → solve_positive_definite s.hessian s.gradient ≡ Err e → r ≡ Err e → StepOutcome p before r before
+          pub damped : s ≡ reduced_system o
+          damped = made ∙ ap reduced_system (sym same)
+
+          pub not_valid : is_valid s ≡ false → StepOutcome p before (Err NotFactored) before
           unfolding step_after_checks
-          not_solved e r k l = rw l (done (Err e) before (rw (sym made, valid, k) refl) refl)
+          not_valid e = done (Err NotFactored) before (rw (sym made, e) refl) refl
 
-          pub solved : (x v : List Float) (sums : StepSums) (after : List Float) (u : StepResult) → solve_positive_definite s.hessian s.gradient ≡ Ok x → v ≡ negated_limited_step x
-              → sums ≡ sums_to q v (count q)
-              → after ≡ steps_to q v (count q)
-              → u ≡ step_result s v q.damping (count q) sums.squared sums.damping_norm
-              → StepOutcome p before (Ok u) after
-          unfolding step_after_checks result_with step_result
-          solved x v sums after u k l e f g =
-              done (Ok u) after (ap Ok g ∙ rw (e, l, same, sym made, valid, k) refl) (f ∙ rw (same, g) refl)
+          module _ (valid : is_valid s ≡ true) where
+            pub not_solved : (e : Refusal) (r : Result StepResult Refusal) → solve_positive_definite s.hessian s.gradient ≡ Err e → r ≡ Err e → StepOutcome p before r before
+            unfolding step_after_checks
+            not_solved e r k l = rw l (done (Err e) before (rw (sym made, valid, k) refl) refl)
+
+            pub solved : (x v : List Float) (sums : StepSums) (after : List Float) (u : StepResult) → solve_positive_definite s.hessian s.gradient ≡ Ok x → v ≡ negated_limited_step x
+                → sums ≡ sums_to o v (count o)
+                → after ≡ steps_to o v (count o)
+                → u ≡ step_result s v o.damping (count o) sums.squared sums.damping_norm
+                → StepOutcome p before (Ok u) after
+            unfolding step_after_checks result_with step_result
+            solved x v sums after u k l e f g =
+                done (Ok u) after (ap Ok g ∙ rw (e, l, same, sym made, valid, k) refl) (f ∙ rw (same, g) refl)

@@ -95,44 +95,19 @@ module _ (p : Problem) (fits : HasMatchingLengths p) (damping : is_valid_damping
       let d = and_parts _ _ e.0 in
       record { deviation = d.0; view1 = d.1; view2 = e.1 }
 
-  deviations_pass : (i : ℕ) → i < count p → check_inverse_standard_deviation p.inverse_standard_deviations i ≡ Ok tt
-  deviations_pass i h = rw ((seen i h).deviation) refl
-
-  points_pass : (i : ℕ) → i < count p → check_point p.points i ≡ Ok tt
-  unfolding all_finite
-  points_pass i h =
-      let x = point_finite _ _ _ (seen i h).view1 in
-      rw (is_true _ x.0, is_true _ x.1, is_true _ x.2) refl
-
-  view1_passes : (i : ℕ) → i < count p → check_observation p First i ≡ Ok tt
-  unfolding all_finite
-  view1_passes i h =
-      let x = observation_finite _ _ _ (seen i h).view1 in
-      rw (is_true _ x.0, is_true _ x.1) refl
-
-  view2_passes : (i : ℕ) → i < count p → check_observation p Second i ≡ Ok tt
-  unfolding all_finite
-  view2_passes i h =
-      let x = observation_finite _ _ _ (seen i h).view2 in
-      rw (is_true _ x.0, is_true _ x.1) refl
-
-  projections_pass : (i : ℕ) → i < count p → check_projection p i ≡ Ok tt
-  unfolding project
-  projections_pass i h = rw ((seen i h).view1, (seen i h).view2) refl
-
   pub accepted_passes : check_problem p ≡ Ok tt
-  unfolding check_values check_both_views
+  unfolding check_values check_both_views all_finite project
   accepted_passes =
       let r = and_parts (is_valid_baseline p.rig.pose.baseline) (leb min_points (count p)) rest in
       let n = count p in
       fitting_check p fits
       ∙ rw (
         damping,
-        passes (check_inverse_standard_deviation p.inverse_standard_deviations) n deviations_pass,
+        passes (check_inverse_standard_deviation p.inverse_standard_deviations) n (λ i h. rw ((seen i h).deviation) refl),
         r.0,
-        passes (check_point p.points) n points_pass,
+        passes (check_point p.points) n (λ i h. let x = point_finite _ _ _ (seen i h).view1 in rw (is_true _ x.0, is_true _ x.1, is_true _ x.2) refl),
         r.1,
-        passes (check_observation p First) n view1_passes,
-        passes (check_observation p Second) n view2_passes,
-        passes (check_projection p) n projections_pass,
+        passes (check_observation p First) n (λ i h. let x = observation_finite _ _ _ (seen i h).view1 in rw (is_true _ x.0, is_true _ x.1) refl),
+        passes (check_observation p Second) n (λ i h. let x = observation_finite _ _ _ (seen i h).view2 in rw (is_true _ x.0, is_true _ x.1) refl),
+        passes (check_projection p) n (λ i h. rw ((seen i h).view1, (seen i h).view2) refl),
       ) refl

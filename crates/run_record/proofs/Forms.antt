@@ -1,21 +1,18 @@
 -- The form of a record: what the tests of its fields say. Assumes nothing.
-use Rattle.std.proofs.Common.{◌≡◌, refl, sym, Bool, true, false, ◌&&◌, true≢false, List, ℕ, zero, suc, ◌+◌, ◌*◌, ◌≤◌, arith, leb-true, eqb, leb, length, Ok}
+use Rattle.std.proofs.Common.{◌≡◌, refl, true, List, ℕ, zero, suc, ◌+◌, ◌*◌, ◌≤◌, arith, leb-true, leb, length, Ok}
+use Rattle.std.proofs.lemmas.Bool.{and_parts}
 use Rattle.refusal.specs.FirstRefusal.{refuse_unless, first_refusal_from}
 use Rattle.refusal.specs.declared.Refusal.TheVariants.{RecordTooLong}
 use Rattle.refusal.proofs.Scans.{after_ok, held, all_ok}
 use Rattle.run_record.specs.declared.fields.Field.{Field}
 use Rattle.run_record.specs.declared.fields.Field.TheVariants.{Camera1, Camera2, Pose, Basis, Damping, Point}
-use Rattle.run_record.specs.Fields.{tag, size, byte, point_at, point_fields, camera1_at, camera2_at, pose_at, translation_basis_at, damping_at}
+use Rattle.run_record.specs.Fields.{tag, size, point_at, point_fields, camera1_at, camera2_at, pose_at, translation_basis_at, damping_at}
 use Rattle.run_record.specs.Form.{max_record, is_whole, check_field, check_header, check_form}
 
-module _ (r : List ℕ) (tag size start : ℕ) where
-  pub whole_fits : is_whole r tag size start ≡ true → start + 3 + size ≤ length r
-  unfolding is_whole
-  whole_fits e = leb-true (start + 3 + size) (length r) (by (leb (start + 3 + size) (length r)) (eqb (byte r start) tag) (eqb (byte r (start + 1) + 256 * byte r (start + 2)) size) e)
-    where
-      by : (x y z : Bool) → (x && y && z) ≡ true → x ≡ true
-      by true y z e = refl
-      by false y z e = absurd (true≢false (sym e))
+-- a field that is whole ends within the record
+pub whole_fits : (r : List ℕ) (tag size start : ℕ) → is_whole r tag size start ≡ true → start + 3 + size ≤ length r
+unfolding is_whole
+whole_fits r tag size start e = leb-true (start + 3 + size) (length r) (and_parts _ _ (and_parts _ _ e).0).0
 
 -- a field without a refusal ends within the record
 pub field_fits : (r : List ℕ) (field : Field) (start : ℕ) → check_field r field start ≡ Ok tt → start + 3 + size field ≤ length r

@@ -1,5 +1,5 @@
 use Rattle.std.proofs.Common.{rules, sym, ◌∙◌}
-use Rattle.optimizer.proofs.Whole.{in_turn, damped_sums, wrong_length, unreadable, checks_refused, not_valid, not_solved, solved}
+use Rattle.optimizer.proofs.Whole.{wrong_length, unreadable, checks_refused, damped, not_valid, not_solved, solved}
 use Rattle.optimizer.proofs.whole_step.step.Goals as goal
 
 pub returns-then-point_steps-problem : goal.returns-then-point_steps-problem
@@ -11,35 +11,26 @@ returns-in_err-readable c =
 
 pub returns-in_err-checked : goal.returns-in_err-checked
 returns-in_err-checked c =
-    let p = c.args.problem.now in
-    let tested = in_turn p _ _ (sym c.new.ensures ∙ c.in_ok-readable.was) (sym c.checked.ensures ∙ c.in_err-checked.was) in
-    checks_refused p c.args.point_steps.now (rw (← c.problem.view_is) c.if-point_steps-problem.false) _ _ tested (search rules)
+    checks_refused c.args.problem.now c.args.point_steps.now (rw (← c.problem.view_is) c.if-point_steps-problem.false) _ (sym c.new.ensures ∙ c.in_ok-readable.was) _ _ (sym c.checked.ensures ∙ c.in_err-checked.was) (search rules)
 
 pub returns-then-not-is_valid : goal.returns-then-not-is_valid
 returns-then-not-is_valid c =
-    let p = c.args.problem.now in
-    let passed = sym c.checked.ensures ∙ c.in_ok-checked.was in
-    let tested = in_turn p _ _ (sym c.new.ensures ∙ c.in_ok-readable.was) passed in
-    let system = damped_sums _ _ _ _ _ passed c.add_blocks-accepted.ensures.system c.damping.ensures c.damp.ensures in
-    not_valid p _ (rw (← c.problem.view_is) c.if-point_steps-problem.false) _ tested _ system (sym c.is_valid.ensures ∙ c.if-not-is_valid.true)
+    not_valid c.args.problem.now c.args.point_steps.now (rw (← c.problem.view_is) c.if-point_steps-problem.false) _ (sym c.new.ensures ∙ c.in_ok-readable.was) _ (sym c.checked.ensures ∙ c.in_ok-checked.was)
+    _ _ _ c.add_blocks-accepted.ensures.system c.damping.ensures c.damp.ensures (sym c.is_valid.ensures ∙ c.if-not-is_valid.true)
 
 pub write_steps-sums-requires-clause-valid : goal.write_steps-sums-requires-clause-valid
 write_steps-sums-requires-clause-valid c =
-    let passed = sym c.checked.ensures ∙ c.in_ok-checked.was in
-    rw (← damped_sums _ _ _ _ _ passed c.add_blocks-accepted.ensures.system c.damping.ensures c.damp.ensures) (sym c.is_valid.ensures ∙ c.if-not-is_valid.false)
+    rw (← damped c.args.problem.now c.args.point_steps.now (rw (← c.problem.view_is) c.if-point_steps-problem.false) _ (sym c.new.ensures ∙ c.in_ok-readable.was) _ (sym c.checked.ensures ∙ c.in_ok-checked.was) _ _ _ c.add_blocks-accepted.ensures.system c.damping.ensures c.damp.ensures)
+    (sym c.is_valid.ensures ∙ c.if-not-is_valid.false)
 
 pub returns-in_err-x : goal.returns-in_err-x
 returns-in_err-x c =
-    let p = c.args.problem.now in
-    let passed = sym c.checked.ensures ∙ c.in_ok-checked.was in
-    let tested = in_turn p _ _ (sym c.new.ensures ∙ c.in_ok-readable.was) passed in
-    let system = damped_sums _ _ _ _ _ passed c.add_blocks-accepted.ensures.system c.damping.ensures c.damp.ensures in
-    not_solved p _ (rw (← c.problem.view_is) c.if-point_steps-problem.false) _ tested _ system (sym c.is_valid.ensures ∙ c.if-not-is_valid.false) _ _ (sym c.solve_positive_definite.ensures.result ∙ c.in_err-x.was) (search rules)
+    not_solved c.args.problem.now c.args.point_steps.now (rw (← c.problem.view_is) c.if-point_steps-problem.false) _ (sym c.new.ensures ∙ c.in_ok-readable.was) _ (sym c.checked.ensures ∙ c.in_ok-checked.was)
+    _ _ _ c.add_blocks-accepted.ensures.system c.damping.ensures c.damp.ensures (sym c.is_valid.ensures ∙ c.if-not-is_valid.false)
+    _ _ (sym c.solve_positive_definite.ensures.result ∙ c.in_err-x.was) (search rules)
 
 pub returns : goal.returns
 returns c =
-    let p = c.args.problem.now in
-    let passed = sym c.checked.ensures ∙ c.in_ok-checked.was in
-    let tested = in_turn p _ _ (sym c.new.ensures ∙ c.in_ok-readable.was) passed in
-    let system = damped_sums _ _ _ _ _ passed c.add_blocks-accepted.ensures.system c.damping.ensures c.damp.ensures in
-    solved p _ (rw (← c.problem.view_is) c.if-point_steps-problem.false) _ tested _ system (sym c.is_valid.ensures ∙ c.if-not-is_valid.false) _ _ _ _ _ (sym c.solve_positive_definite.ensures.result ∙ c.in_ok-x.was) c.negated_limited_step-pose_step.ensures c.write_steps-sums.ensures.sums c.write_steps-sums.ensures.steps c.of.ensures
+    solved c.args.problem.now c.args.point_steps.now (rw (← c.problem.view_is) c.if-point_steps-problem.false) _ (sym c.new.ensures ∙ c.in_ok-readable.was) _ (sym c.checked.ensures ∙ c.in_ok-checked.was)
+    _ _ _ c.add_blocks-accepted.ensures.system c.damping.ensures c.damp.ensures (sym c.is_valid.ensures ∙ c.if-not-is_valid.false)
+    _ _ _ _ _ (sym c.solve_positive_definite.ensures.result ∙ c.in_ok-x.was) c.negated_limited_step-pose_step.ensures c.write_steps-sums.ensures.sums c.write_steps-sums.ensures.steps c.of.ensures
