@@ -60,7 +60,8 @@ fn numbers(low: u64, high: u64) -> impl Iterator<Item = u64> {
     (0..COUNT).map(move |_| low + next(&mut state) % (high - low))
 }
 
-/// ns per call where calls do not wait for each other, and where each waits for the last one's result
+/// ns per call where calls do not wait for each other, and where each waits for the last one's
+/// result
 fn time(root: impl Fn(f64) -> f64, values: &[f64], rounds: usize) -> [f64; 2] {
     let calls = (rounds * values.len()) as f64;
     let mut best = [f64::INFINITY; 2];

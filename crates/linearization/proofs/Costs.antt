@@ -1,5 +1,5 @@
--- The cost and the squared residual of every block, and of the one that is +0 everywhere, are numbers
--- not below zero. Assumes nothing.
+-- The cost and the squared residual of every block, and of the one that is +0 everywhere, are
+-- numbers not below zero. Assumes nothing.
 use Rattle.std.proofs.Common.{◌≡◌, refl, not, T, List}
 use lib.Ieee.{Float, binary64, lt, le}
 use lib.Ieee.Bits.{is_true}

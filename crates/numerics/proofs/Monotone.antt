@@ -34,7 +34,8 @@ pub zero-le : (x : Float) → T (is_nonnegative x) → T (le (of_bits binary64 0
 unfolding of_bits is_nonnegative le lt is_nan
 zero-le x h = grind (arith, nat_tests, zero-mul)
 
--- ---- a sum of values clear of the sign is at least the first, an infinite sum too: the first fits, so it is its own rounding
+-- ---- a sum of values clear of the sign is at least the first, an infinite sum too: the first
+-- fits, so it is its own rounding
 
 -- a / x is at most a / x + b / (x * y)
 grows : (a b x y : ℕ) → a * (x * y) ≤ (a * y + b) * x
@@ -66,7 +67,8 @@ weight f x w h p l = grind (arith, nat_tests, zero-mul)
 pub nonneg_mul_weight : (f : Format) (x w : Float) → T (is_nonnegative x) → T (float_is_finite w) → T (lt (of_bits f 0) w) → T (is_nonnegative (mul f x w))
 nonneg_mul_weight f x w h p l = weight f x w h p (rw (zero_is f) at l)
 
--- ---- c * x * x for a c that is finite and above zero: where x is 0 so is c * x, and where x is infinite so is c * x
+-- ---- c * x * x for a c that is finite and above zero: where x is 0 so is c * x, and where x is
+-- infinite so is c * x
 
 -- a finite value times 0 is 0
 pub times_zero : (f : Format) (m : ℕ) (e d : ℤ) → mul f (fin false m e) (fin false 0 d) ≡ fin false 0 (pos 0)

@@ -21,7 +21,8 @@ use Rattle.optimizer.specs.declared.point_steps.StepSums.{StepSums}
 use Rattle.optimizer.specs.declared.step_result.StepResult.{StepResult}
 use Rattle.optimizer.proofs.PointStepsLaws.{none_refused}
 
--- ---- row 1 with the memory for the point steps: the points' length decides where the two agree, and one of them is wrong where they do not
+-- ---- row 1 with the memory for the point steps: the points' length decides where the two agree,
+-- and one of them is wrong where they do not
 
 points_short : (p : Problem) → eqb (length p.points) (3 * count p) ≡ false → Checks.check_problem p ≡ Err Lengths
 unfolding Checks.check_problem
@@ -43,7 +44,8 @@ lengths_agree p numbers t = by (eqb numbers (3 * count p)) refl
     by true q = refl
     by false q = sym (points_short p (ap (λ (l : ℕ). eqb l (3 * count p)) (sym t) ∙ q))
 
--- ---- a problem that is refused has the checks' refusal, and one that is let through stays as it is
+-- ---- a problem that is refused has the checks' refusal, and one that is let through stays as it
+-- is
 
 -- what a test of a problem answers
 abbrev tested : CheckResult → Problem → Result Problem Refusal

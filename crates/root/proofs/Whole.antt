@@ -78,7 +78,8 @@ whole_root_is (suc d) n h = go (whole_root d (n / 4)) (whole_root_is d (n / 4) (
 pub middle_square : (q : ℕ) → (2 * q + 1) * (2 * q + 1) ≡ 4 * (q * q) + 4 * q + 1
 middle_square q = next_square (2 * q) ∙ (let e = twice_square q in omega arith)
 
--- ---- the definition's rounding: q, or the next number, by how the middle of the two compares with the root
+-- ---- the definition's rounding: q, or the next number, by how the middle of the two compares with
+-- the root
 pub nearest_is : (n q c : ℕ) → 0 < n → 0 < c → IsWholeRoot n q → IsNearestRoot n (nearest q (compare (4 * (n * c)) ((2 * q + 1) * (2 * q + 1) * c)))
 nearest_is n q c N C w =
     let L = 4 * (n * c) in

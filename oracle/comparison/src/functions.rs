@@ -39,8 +39,8 @@ functions! {
     write_list
 }
 
-/// What a sample has lines of: a function whose arguments have one length each, or the whole step of
-/// five points.
+/// What a sample has lines of: a function whose arguments have one length each, or the whole step
+/// of five points.
 pub fn sampled(function: &'static Function) -> Option<&'static Function> {
     if function.name == step::FUNCTION.name {
         return Some(&step::FIVE_POINTS);
