@@ -16,8 +16,8 @@ pub(crate) fn norm(residual: [f64; 2]) -> f64
     root::sqrt(vectors::dot(residual, residual))
 }
 
-// The weight of a view's rows: the inverse deviation times the root of the loss's weight. Plain
-// squares weigh every residual alike, by 1, so that its length is not worked out.
+// The weight of a view's rows: the inverse standard deviation times the root of the loss's weight.
+// Plain squares weigh every residual alike, by 1, so that its length is not worked out.
 #[inline(always)]
 pub(crate) fn row_weight(residual: [f64; 2], inverse_standard_deviation: f64) -> f64
     ensures { result ≡ Loss.row_weight residual inverse_standard_deviation }

@@ -26,8 +26,8 @@ abbrev pub view_number : View → ℕ
 view_number First = 1
 view_number Second = 2
 
--- the row of each refusal, in the order of the rows' numbers; row 9 is met with a view, and without
--- one by a lone projection
+-- the row of each refusal, in the order of the rows' numbers; row 9 has a view, and none where a
+-- point is projected in one camera alone
 unfoldable pub row : Refusal → Row
 row Lengths = row_of RowNumbers.lengths
 row TooManyPoints = row_of RowNumbers.too_many_points
