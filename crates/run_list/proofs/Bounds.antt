@@ -103,18 +103,18 @@ sums_are_numbers r e =
 
 -- ---- written
 
-module _ (r room : List ℕ) (l : ℕ) (after : List ℕ) (h : length room ≡ max_list) (p : PutsText (list r) 0 room l after) where
-  put_list : (l ≡ length (list r)) × (after ≡ with_text room 0 (list r))
-  put_list = let k = list_fits r in let q = put_fits (list r) 0 room l after p (omega arith) in (q.0 ∙ zero-add (length (list r)), q.1)
+module _ (r buffer : List ℕ) (l : ℕ) (after : List ℕ) (h : length buffer ≡ max_list) (p : PutsText (list r) 0 buffer l after) where
+  put_list : (l ≡ length (list r)) × (after ≡ with_text buffer 0 (list r))
+  put_list = let k = list_fits r in let q = put_fits (list r) 0 buffer l after p (omega arith) in (q.0 ∙ zero-add (length (list r)), q.1)
 
   pub made : take l after ≡ list r
   made =
       ap (λ (n : ℕ). take n after) put_list.0
       ∙ ap (λ (x : List ℕ). take (length (list r)) x) put_list.1
-      ∙ take_at (list r) (drop (0 + length (list r)) room) (length (list r)) refl
+      ∙ take_at (list r) (drop (0 + length (list r)) buffer) (length (list r)) refl
 
   pub made_length : l ≤ length after
-  made_length = let k = list_fits r in let a = put_list.0 in let b = put_length (list r) 0 room l after p in omega arith
+  made_length = let k = list_fits r in let a = put_list.0 in let b = put_length (list r) 0 buffer l after p in omega arith
 
   module _ (out : List ℕ) where
     pub not_written : length out < l → WritesList r out (Err (record { needed = l })) out
