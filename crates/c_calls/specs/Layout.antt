@@ -1,7 +1,7 @@
 -- The layouts of docs/SPECIFICATION.md, "C interface", as c_calls/src/layout.rt reads them: flat
 -- numbers from place 0 on, in the order in which each record has its fields here. `LayoutNumbers`
 -- writes blocks and systems in the same order.
-use Rattle.std.specs.Prelude.{ℕ, not, List, ◌==◌, get_or, Float}
+use Rattle.std.specs.Prelude.{ℕ, not, List, ◌==◌, slice_index, Float}
 use Rattle.numerics.specs.Vectors.{◌!◌}
 use Rattle.c_calls.specs.Slices.{part}
 use Rattle.projection.specs.declared.PinholeCamera.{PinholeCamera}
@@ -63,7 +63,7 @@ system x counts = record {
   point_model_reduction = x ! 42;
   scaled_point_gradient_inf_norm = x ! 43;
   minimum_point_rcond = x ! 44;
-  weak_point_count = get_or counts 0 0;
-  block_count = get_or counts 1 0;
-  valid = not ((get_or counts 2 0) == 0);
+  weak_point_count = slice_index counts 0;
+  block_count = slice_index counts 1;
+  valid = not (slice_index counts 2 == 0);
 }

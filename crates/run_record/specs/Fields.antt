@@ -1,13 +1,13 @@
 -- The fields of a run record: one tag byte, the payload's length in two bytes, low byte first, and
 -- the payload. Met by src/fields.rt. docs/SPECIFICATION.md, "Run record".
-use Rattle.std.specs.Prelude.{ℕ, ◌+◌, ◌*◌, ◌-◌, ◌/◌, List, length, get_or, take, drop}
+use Rattle.std.specs.Prelude.{ℕ, ◌+◌, ◌*◌, ◌-◌, ◌/◌, List, length, slice_index, take, drop}
 use Rattle.run_record.specs.declared.fields.Field.{Field}
 use Rattle.run_record.specs.declared.fields.Field.TheVariants.{Camera1, Camera2, Pose, Basis}
 use Rattle.run_record.specs.declared.fields.Field.TheVariants.{Damping, Point}
 
 -- the byte at an offset, or 0 behind the end
 abbrev pub byte : List ℕ → ℕ → ℕ
-byte r i = get_or r i 0
+byte r i = slice_index r i
 
 -- the byte that a field begins with
 abbrev pub tag : Field → ℕ
