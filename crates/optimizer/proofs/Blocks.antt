@@ -1,9 +1,9 @@
 -- The blocks of a problem that rows 1 to 9 let through, by the claim on lists of calls of `add`:
 -- where the system is valid each factors; how many are weak; and the costs are numbers. Assumes
 -- nothing.
-use Rattle.std.proofs.Common.{◌≡◌, refl, sym, ap, ap₂, ◌∙◌, Bool, true, false, ◌&&◌, List, [], ◌∷◌, ℕ, zero, suc, ◌+◌, ◌≤◌, ◌<◌, add-zero, add-suc, suc-add, zero-add, add-one, arith, lt-ltb, leb, ltb, le→leb, ◌⊎◌, inl, inr, Result, Ok, is_ok}
-use lib.Ieee.{Float, is_nan}
-use lib.Ieee.Bits.{is_true, is_false}
+use Rattle.std.proofs.Common.{◌≡◌, refl, sym, ap, ap₂, subst, ◌∙◌, Float, Bool, true, false, ◌&&◌, List, [], ◌∷◌, ℕ, zero, suc, ◌+◌, ◌≤◌, ◌<◌, add-zero, add-suc, suc-add, zero-add, add-one, arith, lt-ltb, leb, ltb, le→leb, ◌⊎◌, inl, inr, Result, Ok, is_ok}
+use Rattle.std.specs.Float.{NotNan}
+use lib.Ieee.Bits.{is_true}
 use Rattle.std.specs.List.{list_all}
 use Rattle.std.proofs.lemmas.Bool.{and_parts, cases_lt}
 use Rattle.std.proofs.lemmas.Float.{le_left}
@@ -161,11 +161,9 @@ weak_at_most p =
 
 -- ---- cost and squared residual are numbers, since the order of IEEE 754 holds of them
 
-pub costs_are_numbers : (p : Problem) → check_problem p ≡ Ok tt → (is_nan (reduced_system p).cost ≡ false) × (is_nan (reduced_system p).squared_residual ≡ false)
+pub costs_are_numbers : (p : Problem) → check_problem p ≡ Ok tt → NotNan (reduced_system p).cost × NotNan (reduced_system p).squared_residual
 unfolding reduced_system
 costs_are_numbers p ok =
     let f = (claim p.damping (good p ok) (calls p 0 (count p))).further [] in
-    let e = after_all p ok in (
-      ap (λ (t : ReducedSystem). is_nan t.cost) (sym e) ∙ is_false _ (le_left _ _ f.cost),
-      ap (λ (t : ReducedSystem). is_nan t.squared_residual) (sym e) ∙ is_false _ (le_left _ _ f.squared),
-    )
+    let Numbers : ReducedSystem → Type 0 = λ t. NotNan t.cost × NotNan t.squared_residual in
+    subst Numbers (after_all p ok) (le_left _ _ f.cost, le_left _ _ f.squared)

@@ -3,7 +3,7 @@
 use Rattle.std.specs.Prelude.{ℕ, zero, suc, ◌≤◌, ◌≡◌, Bool, false, if◌then◌else◌, nat_le}
 use Rattle.std.specs.Prelude.{List, [], ◌++◌, length, Result, Ok, Err}
 use Rattle.std.specs.Result.{result_and}
-use Rattle.std.specs.Float.Ieee.{is_nan}
+use Rattle.std.specs.Float.{NotNan}
 use Rattle.refusal.specs.FirstRefusal.{CheckResult}
 use Rattle.problem.specs.Problem.{Problem, count}
 use Rattle.problem.specs.Checks as Checks
@@ -45,8 +45,8 @@ max_list = 4057
 
 -- neither number that the sum line of a record's run prints is NaN
 pub record NeverNan (r : List ℕ) : Type 0 where
-  pub cost : is_nan (reduced_system (run r)).cost ≡ false
-  pub squared : is_nan (reduced_system (run r)).squared_residual ≡ false
+  pub cost : NotNan (reduced_system (run r)).cost
+  pub squared : NotNan (reduced_system (run r)).squared_residual
 
 -- whether the list of a record fits into a buffer
 abbrev pub fits_in : List ℕ → List ℕ → Bool
