@@ -20,7 +20,7 @@ pub record SystemMemory : Type 0 where
 abbrev pub system_memory : List Float → List ℕ → SystemMemory
 system_memory x counts = record { numbers = x; counts = counts }
 
--- the arrays that hold a system: s is read back from them as it is
+-- the arrays that hold a system
 abbrev pub memory_of : ReducedSystem → SystemMemory
 memory_of s = system_memory (system_numbers s) (system_counts s)
 

@@ -55,26 +55,26 @@ is_valid_pivot p = float_is_finite p && lt relative_tolerance p
 unfoldable pub has_valid_pivots : Factor → Bool
 has_valid_pivots c = is_valid_pivot c.p0 && is_valid_pivot c.p1 && is_valid_pivot c.p2
 
--- The block's inverse D (Mᵀ M) D, with M the inverse of L, and D the diagonal of dᵢ = 1 ÷ sᵢ:
---     mᵢᵢ = 1 ÷ lᵢᵢ   m₁₀ = −l₁₀ m₀₀ m₁₁   m₂₁ = −l₂₁ m₁₁ m₂₂   m₂₀ = −(l₂₀ m₀₀ + l₂₁ m₁₀) m₂₂
---     inverseᵢⱼ = (Σ mₖᵢ mₖⱼ over k ≥ i) (dᵢ dⱼ) for i ≥ j, packed: 00, 10, 11, 20, 21, 22
+-- The block's inverse D (Nᵀ N) D, with N the inverse of L, and D the diagonal of dᵢ = 1 ÷ sᵢ:
+--     nᵢᵢ = 1 ÷ lᵢᵢ   n₁₀ = −l₁₀ n₀₀ n₁₁   n₂₁ = −l₂₁ n₁₁ n₂₂   n₂₀ = −(l₂₀ n₀₀ + l₂₁ n₁₀) n₂₂
+--     inverseᵢⱼ = (Σ nₖᵢ nₖⱼ over k ≥ i) (dᵢ dⱼ) for i ≥ j, packed: 00, 10, 11, 20, 21, 22
 unfoldable pub inverse_of : Lower → Scale → List Float
 inverse_of l s =
-    let m₀₀ = recip l.e00 in
-    let m₁₁ = recip l.e11 in
-    let m₂₂ = recip l.e22 in
-    let m₁₀ = neg l.e10 ⊗ m₀₀ ⊗ m₁₁ in
-    let m₂₁ = neg l.e21 ⊗ m₁₁ ⊗ m₂₂ in
-    let m₂₀ = neg (l.e20 ⊗ m₀₀ ⊕ l.e21 ⊗ m₁₀) ⊗ m₂₂ in
+    let n₀₀ = recip l.e00 in
+    let n₁₁ = recip l.e11 in
+    let n₂₂ = recip l.e22 in
+    let n₁₀ = neg l.e10 ⊗ n₀₀ ⊗ n₁₁ in
+    let n₂₁ = neg l.e21 ⊗ n₁₁ ⊗ n₂₂ in
+    let n₂₀ = neg (l.e20 ⊗ n₀₀ ⊕ l.e21 ⊗ n₁₀) ⊗ n₂₂ in
     let d₀ = recip s.s0 in
     let d₁ = recip s.s1 in
     let d₂ = recip s.s2 in
-    (m₀₀ ⊗ m₀₀ ⊕ m₁₀ ⊗ m₁₀ ⊕ m₂₀ ⊗ m₂₀) ⊗ (d₀ ⊗ d₀)
-    ∷ (m₁₁ ⊗ m₁₀ ⊕ m₂₁ ⊗ m₂₀) ⊗ (d₁ ⊗ d₀)
-    ∷ (m₁₁ ⊗ m₁₁ ⊕ m₂₁ ⊗ m₂₁) ⊗ (d₁ ⊗ d₁)
-    ∷ m₂₂ ⊗ m₂₀ ⊗ (d₂ ⊗ d₀)
-    ∷ m₂₂ ⊗ m₂₁ ⊗ (d₂ ⊗ d₁)
-    ∷ m₂₂ ⊗ m₂₂ ⊗ (d₂ ⊗ d₂)
+    (n₀₀ ⊗ n₀₀ ⊕ n₁₀ ⊗ n₁₀ ⊕ n₂₀ ⊗ n₂₀) ⊗ (d₀ ⊗ d₀)
+    ∷ (n₁₁ ⊗ n₁₀ ⊕ n₂₁ ⊗ n₂₀) ⊗ (d₁ ⊗ d₀)
+    ∷ (n₁₁ ⊗ n₁₁ ⊕ n₂₁ ⊗ n₂₁) ⊗ (d₁ ⊗ d₁)
+    ∷ n₂₂ ⊗ n₂₀ ⊗ (d₂ ⊗ d₀)
+    ∷ n₂₂ ⊗ n₂₁ ⊗ (d₂ ⊗ d₁)
+    ∷ n₂₂ ⊗ n₂₂ ⊗ (d₂ ⊗ d₂)
     ∷ []
 
 -- the factor of a matrix at the scale √d

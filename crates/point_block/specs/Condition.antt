@@ -8,11 +8,11 @@ use Rattle.numerics.specs.Vectors.{◌!◌, sum}
 use Rattle.numerics.specs.Extrema.{fold_max}
 use Rattle.point_block.specs.Factor.{solve}
 
--- |x| + |y| + |z|: what a row adds to the norm
+-- |x| + |y| + |z|: the sum of a row's absolute values
 abbrev pub row_norm : Float → Float → Float → Float
 row_norm x y z = sum (abs x ∷ abs y ∷ abs z ∷ [])
 
--- ‖m‖: the largest of the three rows; a row that is a NaN is passed over
+-- ‖m‖: the largest of the three rows' sums; a sum that is a NaN is passed over
 unfoldable pub infinity_norm : List Float → Float
 infinity_norm m =
     fold_max (

@@ -1,5 +1,6 @@
 -- Rows 1 to 9 of a two-view problem, the rows of a whole step that look at no sum; met by
--- src/checks.rt, after `refine_impl` of kernel/two_view/optimizer.rs and `project` of residual.rs.
+-- src/checks.rt, after the tests that `refine_dispatch` of kernel/two_view/optimizer.rs makes and
+-- calls, and `project` of residual.rs.
 -- The first row whose condition holds is given, and within a row the lowest index.
 -- docs/SPECIFICATION.md, "Refusals". Row 1 of the memory for the point steps is tested by the whole
 -- step itself.

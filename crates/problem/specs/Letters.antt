@@ -10,7 +10,7 @@ use Rattle.problem.specs.declared.letters.BlockQuality.TheVariants.{NotFactored,
 use Rattle.problem.specs.declared.letters.BlockQuality.TheVariants.{Good, Factored}
 
 -- A block that factors, by its reciprocal condition number: at damping zero it is weak at or below
--- 192ε and good above that, and at other dampings it has no grade.
+-- 192ε and good above that; at any other damping it is factored, and no more is told.
 abbrev pub quality_by_rcond : Float → Float → BlockQuality
 quality_by_rcond damping rcond =
     if is_zero damping then (if is_weak rcond then Weak else Good) else Factored

@@ -13,7 +13,7 @@ use Rattle.linearization.specs.declared.views.Correspondence.{Correspondence}
 use Rattle.linearization.specs.declared.views.Rig.{Rig}
 
 -- Flat lists: for n points 3n coordinates, 2n pixel coordinates in each view and n inverse standard
--- deviations; the rig, and the damping λ.
+-- deviations; the rig, and the damping.
 pub record Problem : Type 0 where
   pub points : List Float
   pub view1 : List Float

@@ -16,7 +16,8 @@ whole_root (suc d) n =
 
 -- √n units of 2 ^ -1074, rounded to a multiple of 2 ^ k units, where √n < 2 ^ (53 + k): with
 -- q = ⌊√⌊n / 2 ^ (2·k)⌋⌋ it is q · 2 ^ k units where 4·n < (2·q + 1)² · 2 ^ (2·k), as √n then
--- lies below the middle (q + 1/2) · 2 ^ k, and (q + 1) · 2 ^ k units elsewhere
+-- lies below the middle (q + 1/2) · 2 ^ k, and (q + 1) · 2 ^ k units where it lies above. On the
+-- middle itself, where no root of a binary64 lies, it is the even one of the two.
 unfoldable pub rounded_root : ℕ → ℕ → Float
 unfolding whole_root
 rounded_root n k =

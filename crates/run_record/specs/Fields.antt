@@ -50,7 +50,8 @@ points_at = 255
 abbrev pub point_at : ℕ → ℕ
 point_at i = points_at + 67 * i
 
--- n, the number of point fields that begin within the record: ⌈(length − 255) ÷ 67⌉
+-- n, the number of point fields that begin within the record: ⌈(length − 255) ÷ 67⌉, where `-` ends
+-- at 0
 abbrev pub point_fields : List ℕ → ℕ
 point_fields r = (length r - points_at + 66) / 67
 

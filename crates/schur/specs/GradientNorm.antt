@@ -12,7 +12,7 @@ use Rattle.numerics.specs.Extrema.{max, fold_max}
 abbrev pub scaled_entry : Float → Float → Float → Float
 scaled_entry value curvature floor = abs value ⊘ sqrt (max curvature floor)
 
--- r is that scaled entry where the floor is not below zero
+-- r is that scaled entry where the floor is a number with its sign clear
 pub record IsScaledEntry (value curvature floor r : Float) : Type 0 where
   pub is : IsTrue (is_nonnegative floor) → r ≡ scaled_entry value curvature floor
 
@@ -20,8 +20,9 @@ pub record IsScaledEntry (value curvature floor r : Float) : Type 0 where
 unfoldable pub norm_without_scale : Bool → Float
 norm_without_scale zeros = if zeros then zero else inf false
 
--- The largest of n scaled entries, with 64ε times the largest curvature as the floor. Where the
--- largest curvature is not positive and finite there is no scale.
+-- The largest scaled entry of a gradient of n entries and their n curvatures, with 64ε times the
+-- largest curvature as the floor. Where that curvature is not positive and finite there is no
+-- scale.
 unfoldable pub scaled_gradient_inf_norm : ℕ → List Float → List Float → Float
 scaled_gradient_inf_norm n gradient diagonal =
     let scale = fold_max diagonal in

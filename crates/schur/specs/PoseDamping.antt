@@ -5,7 +5,7 @@ use Rattle.numerics.specs.Binary64.{◌⊕◌, ◌⊗◌, relative_tolerance, mi
 use Rattle.numerics.specs.Vectors.{◌!◌, sum, tabulate}
 use Rattle.numerics.specs.Extrema.{max, fold_max}
 
--- 64ε · max(the largest entry of d, the smallest normal number)
+-- 64ε · max(the largest of the five entries of d, the smallest normal number)
 unfoldable pub pose_floor : List Float → Float
 pose_floor d = relative_tolerance ⊗ max (fold_max d) min_positive
 

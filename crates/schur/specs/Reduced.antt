@@ -38,7 +38,8 @@ with_damping s damping = record s { hessian = damped_hessian s.hessian s.pose_di
 unfoldable pub finish_damping : ReducedSystem → Float → Result ReducedSystem Refusal
 finish_damping s damping = map_ok (with_damping s) (valid_damping damping)
 
--- every block taken in factored, and every entry of the equations is finite
+-- The flag is set, and every entry of the equations is finite. A system that `add` made has the
+-- flag set if and only if every block taken in factored.
 unfoldable pub is_valid : ReducedSystem → Bool
 is_valid s = s.valid && all_finite s.gradient && all_finite s.hessian
 
@@ -48,9 +49,9 @@ gradient_inf_norm s =
     max s.scaled_point_gradient_inf_norm
     (scaled_gradient_inf_norm 5 s.full_pose_gradient s.pose_diagonal)
 
--- What a step s of the pose is predicted to gain, with S the Hessian as it stands and g the
+-- What a step x of the pose is predicted to gain, with S the Hessian as it stands and g the
 -- gradient:
---   reduction of the points − gᵀs − ½ sᵀSs + ½ damping (pose damping norm + point damping norm)
+--   reduction of the points − gᵀx − ½ xᵀSx + ½ damping (pose damping norm + point damping norm)
 unfoldable pub reduction_of : ReducedSystem → List Float → Float → Float → Float
 reduction_of s step damping point_damping_norm =
     let damping_norm = pose_damping_norm s.pose_diagonal step ⊕ point_damping_norm in
